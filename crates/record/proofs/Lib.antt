@@ -1,0 +1,7 @@
+mod BigEndian
+mod Encodings
+mod Labels
+mod Layouts
+mod OneForm
+mod Readings
+mod WrittenReads

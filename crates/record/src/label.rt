@@ -1,0 +1,41 @@
+// The label of an offer.
+ghost use mathlib.Core.Path.{_≡_};
+ghost use Rattle.record.specs.Label.{trimmed, shownLabel, isLabel};
+
+use super::kind::is_printable;
+
+// A label has six bytes.
+pub const LABEL_LEN: usize = 6;
+
+// The label without its last spaces.
+pub fn trim(label: &[u8]) -> &[u8]
+    ensures { λ r. ⌜ now r ≡ trimmed (now (label .entry)) ⌝ }
+{
+    let mut n = label.len();
+    while n > 0 && label[n - 1] == b' ' {
+        n -= 1;
+    }
+    &label[0..n]
+}
+
+// Whether these are six bytes that a label may hold.
+pub fn is_label(label: &[u8]) -> bool
+    ensures { λ r. ⌜ r ≡ isLabel (now (label .entry)) ⌝ }
+{
+    if label.len() != LABEL_LEN {
+        return false;
+    }
+    for byte in label {
+        if !is_printable(*byte) {
+            return false;
+        }
+    }
+    true
+}
+
+// What a label shows: itself, or the caller's default text where it is blank.
+pub fn shown<'a>(label: &'a [u8], default: &'a [u8]) -> &'a [u8]
+    ensures { λ r. ⌜ now r ≡ shownLabel (now (label .entry)) (now (default .entry)) ⌝ }
+{
+    if label.is_empty() { default } else { label }
+}

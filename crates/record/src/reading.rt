@@ -1,0 +1,93 @@
+// The reader: a struct over the input with a place.
+ghost use mathlib.Core.Path.{_≡_};
+ghost use Prim.Native.Nat.{_+_, _<_, _≤_, _^_};
+ghost use lib.ListN.{length};
+ghost use denote.Ref.{now as behind};
+ghost use Rattle.record.specs.Content.{contentOf};
+ghost use Rattle.record.specs.Reading.{content, parsed, parsedBy, one, readAt, readBy, placeAfter};
+ghost use Rattle.record.specs.RoundTrip.{OnlyForm};
+ghost use Rattle.record.specs.BigEndian.{part};
+
+use super::RECORD_LEN;
+use super::content::Record;
+use super::fault::ReadFault;
+use super::kind::Kind;
+use super::label::trim;
+use super::numbers::read_u16;
+use super::numbers::read_u48;
+
+// What the 24 bytes of an allowed record say.
+fn content_of<'a>(kind: Kind, bytes: &'a [u8]) -> Record<'a>
+    requires { ⌜ length (now bytes) ≡ 24 ⌝ }
+    ensures { λ r. ⌜ contentOf r ≡ content kind (now (bytes .entry)) ⌝ }
+{
+    match kind {
+        Kind::Offer => Record::Offer {
+            ticket: read_u16(&bytes[2..4]),
+            arrival: read_u48(&bytes[4..10]),
+            deadline: read_u48(&bytes[10..16]),
+            work: read_u16(&bytes[16..18]),
+            label: trim(&bytes[18..24]),
+        },
+        Kind::Strike => Record::Strike { ticket: read_u16(&bytes[2..4]) },
+        Kind::Tick => Record::Tick,
+    }
+}
+
+// The record of these 24 bytes, which stand at the place in the input.
+fn parse<'a>(bytes: &'a [u8], place: usize) -> Result<Record<'a>, ReadFault>
+    requires { ⌜ length (now bytes) ≡ 24 ⌝ ∗ ⌜ place + 24 < 2 ^ 64 ⌝ }
+    ensures said { λ r. ⌜ parsedBy r ≡ parsed place (now (bytes .entry)) ⌝ }
+    ensures only { λ r. ⌜ OnlyForm (one (parsedBy r)) (now (bytes .entry)) ⌝ }
+{
+    let Some(kind) = Kind::of(bytes[0]) else {
+        return Err(ReadFault::UnknownKind { place });
+    };
+    if let Some(at) = kind.first_forbidden(bytes) {
+        return Err(ReadFault::Forbidden { place: place + at });
+    }
+    Ok(content_of(kind, bytes))
+}
+
+#[derive(Drop)]
+pub struct Reader<'a> {
+    input: &'a [u8],
+    place: usize,
+    ghost within: { place ≤ length (behind input) },
+}
+
+impl<'a> Reader<'a> {
+    // A reader at the start of the input.
+    pub fn new(input: &'a [u8]) -> Reader<'a>
+        ensures { λ r. ⌜ r .place ≡ 0 ⌝ ∗ ⌜ now (r .input) ≡ now (input .entry) ⌝ }
+    {
+        Reader { input, place: 0 }
+    }
+
+    // Where the next record stands.
+    pub fn place(&self) -> usize
+        ensures { λ r. ⌜ r ≡ now (self .entry) .place ⌝ }
+    {
+        self.place
+    }
+
+    // The next record, or none at the end of the input.
+    pub fn next(&mut self) -> Result<Option<Record<'a>>, ReadFault>
+        ensures said { λ r. ⌜ readBy r ≡ readAt (now (now (self .entry) .input)) (now (self .entry) .place) ⌝ }
+        ensures only { λ r. ⌜ OnlyForm (readBy r) (part (now (self .entry) .place) 24 (now (now (self .entry) .input))) ⌝ }
+        ensures place { λ _. ⌜ now (self .exit) .place ≡ placeAfter (now (now (self .entry) .input)) (now (self .entry) .place) ⌝ }
+        ensures input { λ _. ⌜ now (now (self .exit) .input) ≡ now (now (self .entry) .input) ⌝ }
+    {
+        let place = self.place;
+        let left = self.input.len() - place;
+        if left == 0 {
+            return Ok(None);
+        }
+        if left < RECORD_LEN {
+            return Err(ReadFault::Cut { place });
+        }
+        self.place = place + RECORD_LEN;
+        let record = parse(&self.input[place..place + RECORD_LEN], place)?;
+        Ok(Some(record))
+    }
+}

@@ -1,0 +1,83 @@
+// The writer: one record into the caller's list.
+ghost use mathlib.Core.Path.{_≡_};
+ghost use lib.ListN.{length, take};
+ghost use mathlib.Core.Bool.{true};
+ghost use Rattle.std.specs.Results.{isOk};
+ghost use Rattle.record.specs.Content.{contentOf};
+ghost use Rattle.record.specs.Writing.{laidOut, encoded, encodedBy, checked, checkedOffer, writeOf, writtenInto};
+ghost use Rattle.record.specs.RoundTrip.{Sized, bare, ReadsAs};
+
+use super::RECORD_LEN;
+use super::content::Record;
+use super::fault::WriteFault;
+use super::fault::WrittenField;
+use super::kind::Kind;
+use super::label::is_label;
+
+// The greatest number that fits six bytes.
+const MAX_TICK: u64 = 0xffff_ffff_ffff;
+
+// Whether the fields of an offer fit their bytes.
+fn check_offer(arrival: u64, deadline: u64, label: &[u8]) -> Result<(), WriteFault>
+    ensures { λ r. ⌜ r ≡ checkedOffer arrival deadline (now (label .entry)) ⌝ }
+{
+    if arrival > MAX_TICK {
+        return Err(WriteFault::Field(WrittenField::Arrival));
+    }
+    if deadline > MAX_TICK {
+        return Err(WriteFault::Field(WrittenField::Deadline));
+    }
+    if !is_label(label) {
+        return Err(WriteFault::Field(WrittenField::Label));
+    }
+    Ok(())
+}
+
+// The label of a strike or a tick.
+const BLANK: &[u8] = b"      ";
+
+// 24 bytes with these fields, of which the ticks fit six bytes.
+fn lay_out(kind: Kind, ticket: u16, arrival: u64, deadline: u64, work: u16, label: &[u8]) -> [u8; 24]
+    requires { ⌜ length (now label) ≡ 6 ⌝ }
+    ensures { λ r. ⌜ r ≡ laidOut kind ticket arrival deadline work (now (label .entry)) ⌝ }
+{
+    let mut bytes = [0; 24];
+    bytes[0] = kind.byte();
+    bytes[2..4].copy_from_slice(&ticket.to_be_bytes());
+    bytes[4..10].copy_from_slice(&arrival.to_be_bytes()[2..8]);
+    bytes[10..16].copy_from_slice(&deadline.to_be_bytes()[2..8]);
+    bytes[16..18].copy_from_slice(&work.to_be_bytes());
+    bytes[18..24].copy_from_slice(label);
+    bytes
+}
+
+impl Record<'_> {
+    // The bytes of the record, where its fields fit them.
+    fn encode(&self) -> Result<[u8; 24], WriteFault>
+        ensures said { λ r. ⌜ r ≡ encodedBy (checked (contentOf (now (self .entry)))) (encoded (contentOf (now (self .entry)))) ⌝ }
+        ensures sized { λ _. ⌜ Sized (contentOf (now (self .entry))) ⌝ }
+    {
+        match *self {
+            Record::Offer { ticket, arrival, deadline, work, label } => {
+                check_offer(arrival, deadline, label)?;
+                Ok(lay_out(Kind::Offer, ticket, arrival, deadline, work, label))
+            }
+            Record::Strike { ticket } => Ok(lay_out(Kind::Strike, ticket, 0, 0, 0, BLANK)),
+            Record::Tick => Ok(lay_out(Kind::Tick, 0, 0, 0, 0, BLANK)),
+        }
+    }
+
+    // Writes the record into the first 24 places of the list.
+    pub fn write_to(&self, out: &mut [u8]) -> Result<(), WriteFault>
+        ensures said { λ r. ⌜ r ≡ writeOf (contentOf (now (self .entry))) (now (out .entry)) ⌝ }
+        ensures written { λ _. ⌜ now (out .exit) ≡ writtenInto (contentOf (now (self .entry))) (now (out .entry)) ⌝ }
+        ensures back { λ r. ⌜ (isOk r ≡ true → ReadsAs (take 24 (now (out .exit))) (bare (contentOf (now (self .entry))))) ⌝ }
+    {
+        let bytes = self.encode()?;
+        if out.len() < RECORD_LEN {
+            return Err(WriteFault::Short { needed: RECORD_LEN });
+        }
+        out[0..RECORD_LEN].copy_from_slice(&bytes);
+        Ok(())
+    }
+}
