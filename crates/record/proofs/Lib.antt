@@ -1,5 +1,6 @@
 mod BigEndian
 mod Encodings
+pub mod LabelText
 mod Labels
 mod Layouts
 mod OneForm

@@ -1,0 +1,86 @@
+// The bench works the records of a file one by one.
+ghost use mathlib.Core.Path.{_≡_};
+ghost use mathlib.Core.Bool.{false};
+ghost use Rattle.std.specs.Text.{Ascii};
+ghost use Rattle.transcript.specs.Entries.{entryBy, workedBy, worked, nextEntry, nextPlace, nextOver};
+ghost use Rattle.record.specs.Reading.{placeAfter};
+
+use super::fault::BenchFault;
+use super::fault::BenchFromRead;
+use super::fault::BenchRefusal;
+use super::line::Line;
+use record::Reader;
+use record::Record;
+use record::shown;
+use refusal::Fault;
+use std::str::from_utf8;
+
+// What a blank label shows.
+const DEFAULT_LABEL: &[u8] = b"house";
+
+// A label as text.
+fn text(label: &[u8]) -> &str
+    requires { ⌜ Ascii (now label) ⌝ }
+    ensures { λ r. ⌜ now r ≡ now (label .entry) ⌝ }
+{
+    match from_utf8(label) {
+        Ok(text) => text,
+        Err(_) => unreachable(),
+    }
+}
+
+#[derive(Drop)]
+pub struct Bench<'a> {
+    reader: Reader<'a>,
+    // Whether a fault has ended the run.
+    over: bool,
+}
+
+impl<'a> Bench<'a> {
+    // A bench at the start of the input.
+    pub fn new(input: &'a [u8]) -> Bench<'a>
+        ensures { λ r. ⌜ now (r .reader .input) ≡ now (input .entry) ⌝ ∗ ⌜ r .reader .place ≡ 0 ⌝ ∗ ⌜ r .over ≡ false ⌝ }
+    {
+        Bench { reader: Reader::new(input), over: false }
+    }
+
+    // Reads the next record, and says what it is.
+    fn work(&mut self) -> Result<Option<Line<'a>>, BenchFault>
+        ensures said { λ r. ⌜ workedBy r ≡ worked (now (now (self .entry) .reader .input)) (now (self .entry) .reader .place) ⌝ }
+        ensures place { λ _. ⌜ now (self .exit) .reader .place ≡ placeAfter (now (now (self .entry) .reader .input)) (now (self .entry) .reader .place) ⌝ }
+        ensures input { λ _. ⌜ now (now (self .exit) .reader .input) ≡ now (now (self .entry) .reader .input) ⌝ }
+        ensures over { λ _. ⌜ now (self .exit) .over ≡ now (self .entry) .over ⌝ }
+    {
+        let Some(record) = self.reader.next()? else {
+            return Ok(None);
+        };
+        Ok(Some(match record {
+            Record::Offer { ticket, arrival, deadline, work, label } => {
+                let label = text(shown(label, DEFAULT_LABEL));
+                Line::Offer { ticket, arrival, deadline, work, label }
+            }
+            Record::Strike { ticket } => Line::Strike { ticket },
+            Record::Tick => Line::Tick,
+        }))
+    }
+
+    // The line of the next record. There is none after the last record, nor after a cut one.
+    pub fn next_line(&mut self) -> Option<Line<'a>>
+        ensures said { λ r. ⌜ entryBy r ≡ nextEntry (now (self .entry) .over) (now (now (self .entry) .reader .input)) (now (self .entry) .reader .place) ⌝ }
+        ensures place { λ _. ⌜ now (self .exit) .reader .place ≡ nextPlace (now (self .entry) .over) (now (now (self .entry) .reader .input)) (now (self .entry) .reader .place) ⌝ }
+        ensures over { λ _. ⌜ now (self .exit) .over ≡ nextOver (now (self .entry) .over) (now (now (self .entry) .reader .input)) (now (self .entry) .reader .place) ⌝ }
+        ensures input { λ _. ⌜ now (now (self .exit) .reader .input) ≡ now (now (self .entry) .reader .input) ⌝ }
+    {
+        if self.over {
+            return None;
+        }
+        let place = self.reader.place();
+        match self.work() {
+            Ok(line) => line,
+            Err(fault) => {
+                self.over = fault.ends_run();
+                Some(Line::Refused { place, refusal: fault.refusal() })
+            }
+        }
+    }
+}
