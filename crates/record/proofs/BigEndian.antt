@@ -25,8 +25,8 @@ number-bytes zero n h = omega arith
 number-bytes (suc k) n h =
     number-push 256 (bytes k (n / 256)) (n % 256)
     ∙ (let p = pow-suc 256 k in
-       let e = number-bytes k (n / 256) (omega arith) in
-       omega (arith, e))
+    let e = number-bytes k (n / 256) (omega arith) in
+    omega (arith, e))
 
 -- bytes are the bytes of their number
 pub bytes-number : (bs : List ℕ) → ((i : ℕ) → getD bs i 0 < 256) → (k : ℕ) → k ≤ length bs → bytes k (number (take k bs)) ≡ take k bs

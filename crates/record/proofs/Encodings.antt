@@ -4,7 +4,7 @@ use mathlib.Core.List.{List, _∷_, _++_, append-nil}
 use Prim.Native.Nat.{ℕ}
 use lib.ListN.{set, replicate}
 use borrow.Rule.Slice.PartMut.{putMid}
-use Rattle.record.specs.declared.kind.Kind.{Kind}
+use Rattle.record.specs.declared.layout.Kind.{Kind}
 use Rattle.record.specs.BigEndian.{bytes}
 use Rattle.record.specs.Layout.{kindByte}
 use Rattle.record.specs.Writing.{laidOut}

@@ -64,8 +64,8 @@ trimmed-getD l i h =
 pub same-from-trimmed : (l m : List ℕ) → length l ≡ length m → trimmed l ≡ trimmed m → l ≡ m
 same-from-trimmed l m e t =
     ext-getD 0 l m e (λ i h.
-      let lt = ap length t in
-      ⊎-elim
-        (λ (q : i < length (trimmed l)). sym (trimmed-getD l i q) ∙ ap (λ x. getD x i 0) t ∙ trimmed-getD m i (omega arith))
-        (λ (q : length (trimmed l) ≤ i). trimmed-off l i q h ∙ sym (trimmed-off m i (omega arith) (omega arith)))
-        (cases-lt i (length (trimmed l))))
+    let lt = ap length t in
+    ⊎-elim
+    (λ (q : i < length (trimmed l)). sym (trimmed-getD l i q) ∙ ap (λ x. getD x i 0) t ∙ trimmed-getD m i (omega arith))
+    (λ (q : length (trimmed l) ≤ i). trimmed-off l i q h ∙ sym (trimmed-off m i (omega arith) (omega arith)))
+    (cases-lt i (length (trimmed l))))

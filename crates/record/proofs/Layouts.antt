@@ -8,7 +8,7 @@ use lib.ListN.{length, getD, drop}
 use Rattle.std.specs.declared.option.Option.the-variants.{Some, None}
 use Rattle.std.proofs.shelf.Lists.{at-drop-more, at-drop-all}
 use Rattle.std.proofs.shelf.Tests.{cond-true, cond-false}
-use Rattle.record.specs.declared.kind.Kind.{Kind}
+use Rattle.record.specs.declared.layout.Kind.{Kind}
 use Rattle.record.specs.Layout.{allows, firstForbidden}
 
 module _ (k : Kind) (bs : List ℕ) (i : ℕ) where
@@ -26,6 +26,7 @@ pub forbidden-within : (k : Kind) (i : ℕ) (bs : List ℕ) (j : ℕ) → Some j
 forbidden-within k i [] j e = let z : _≡_ {A = ℕ} 0 1 = cc in omega arith
 forbidden-within k i (b ∷ bs) j e =
     elim (allows k i b) as (λ v. Some j ≡ cond v (firstForbidden k (i + 1) bs) (Some i) → j < i + length (b ∷ bs)) [
-      true ↦ λ p. omega (arith, forbidden-within k (i + 1) bs j p)
-    | false ↦ λ p. let q : j ≡ i = cc in omega arith ]
+      | true ↦ λ p. omega (arith, forbidden-within k (i + 1) bs j p)
+      | false ↦ λ p. let q : j ≡ i = cc in omega arith
+    ]
     e

@@ -4,5 +4,5 @@ pub mod LabelText
 mod Labels
 mod Layouts
 mod OneForm
-mod Readings
+pub mod Readings
 mod WrittenReads

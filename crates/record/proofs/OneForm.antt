@@ -14,8 +14,8 @@ use Rattle.std.specs.declared.result.Result.{Result}
 use Rattle.std.specs.declared.result.Result.the-variants.{Ok, Err}
 use Rattle.std.proofs.shelf.Lists.{length-drop, length-take-le, length-replicate, getD-drop, getD-take, getD-replicate, ext-getD}
 use Rattle.std.proofs.shelf.Tests.{cond-true, cond-false, le-ltb, lt-ltb, eqb-true, and-from, and-right}
-use Rattle.record.specs.declared.kind.Kind.{Kind}
-use Rattle.record.specs.declared.kind.Kind.the-variants.{Offer, Strike, Tick}
+use Rattle.record.specs.declared.layout.Kind.{Kind}
+use Rattle.record.specs.declared.layout.Kind.the-variants.{Offer, Strike, Tick}
 use Rattle.record.specs.BigEndian.{number, bytes, part}
 use Rattle.record.specs.Content.{Content, offer, strike, tick}
 use Rattle.record.specs.Label.{allPrintable, isLabel}
@@ -49,8 +49,8 @@ filled-part : (b : List ℕ) (at n v : ℕ) → at + n ≤ length b → ((i : �
 filled-part b at n v h e =
     let l = length-take-le n (drop at b) (omega (arith, length-drop at b)) in
     ext-getD 0 (part at n b) (replicate n v) (l ∙ sym (length-replicate n v)) (λ j q.
-      let j< : j < n = omega (arith, l) in
-      getD-take n (drop at b) j 0 j< ∙ getD-drop at b j 0 ∙ e (at + j) (omega arith) (omega arith) ∙ sym (getD-replicate n j v 0 j<))
+    let j< : j < n = omega (arith, l) in
+    getD-take n (drop at b) j 0 j< ∙ getD-drop at b j 0 ∙ e (at + j) (omega arith) (omega arith) ∙ sym (getD-replicate n j v 0 j<))
 
 -- 24 bytes, field by field
 abbrev fields : List ℕ → List ℕ
@@ -124,13 +124,14 @@ module _ (b : List ℕ) (long : length b ≡ 24) (small : (i : ℕ) → getD b i
       let fits = part-fits Offer b long small e f in
       let l = length-label Offer b long small e f in
       let label : isLabel (part 18 6 b) ≡ true =
-          label-is (part 18 6 b) true l (all-printable (part 18 6 b) (λ i h.
-            let at = getD-take 6 (drop 18 b) i 0 (omega (arith, l)) ∙ getD-drop 18 b i 0 in
-            ap printable at ∙ label-at Offer b long small e f (18 + i) (omega arith) (omega (arith, l)))) in
-      ( (fits 2 2 (omega arith), fits 16 2 (omega arith))
-      , cond-false (ltb 0xffff_ffff_ffff (number (part 4 6 b))) _ _ (le-ltb _ _ (omega (arith, fits 4 6 (omega arith))))
-        ∙ cond-false (ltb 0xffff_ffff_ffff (number (part 10 6 b))) _ _ (le-ltb _ _ (omega (arith, fits 10 6 (omega arith))))
-        ∙ cond-true (isLabel (part 18 6 b)) _ _ label )
+      label-is (part 18 6 b) true l (all-printable (part 18 6 b) (λ i h.
+      let at = getD-take 6 (drop 18 b) i 0 (omega (arith, l)) ∙ getD-drop 18 b i 0 in
+      ap printable at ∙ label-at Offer b long small e f (18 + i) (omega arith) (omega (arith, l)))) in (
+        (fits 2 2 (omega arith), fits 16 2 (omega arith)),
+        cond-false (ltb 0xffff_ffff_ffff (number (part 4 6 b))) _ _ (le-ltb _ _ (omega (arith, fits 4 6 (omega arith))))
+            ∙ cond-false (ltb 0xffff_ffff_ffff (number (part 10 6 b))) _ _ (le-ltb _ _ (omega (arith, fits 10 6 (omega arith))))
+            ∙ cond-true (isLabel (part 18 6 b)) _ _ label,
+      )
   writable-whole Strike e f = (part-fits Strike b long small e f 2 2 (omega arith), refl)
   writable-whole Tick e f = (tt, refl)
 
@@ -159,17 +160,18 @@ kind-tests false false false k e = let z : _≡_ {A = ℕ} 0 1 = cc in absurd (o
 kind-byte : (v : ℕ) (k : Kind) → kindOf v ≡ Some k → v ≡ kindByte k
 kind-byte v k e =
     ⊎-elim
-      (λ (p : (eqb v 0x4f ≡ true) × (Offer ≡ k)). eqb-true v 0x4f (p .0) ∙ ap kindByte (p .1))
-      (⊎-elim
-        (λ (p : (eqb v 0x53 ≡ true) × (Strike ≡ k)). eqb-true v 0x53 (p .0) ∙ ap kindByte (p .1))
-        (λ (p : (eqb v 0x54 ≡ true) × (Tick ≡ k)). eqb-true v 0x54 (p .0) ∙ ap kindByte (p .1)))
-      (kind-tests (eqb v 0x4f) (eqb v 0x53) (eqb v 0x54) k e)
+    (λ (p : (eqb v 0x4f ≡ true) × (Offer ≡ k)). eqb-true v 0x4f (p .0) ∙ ap kindByte (p .1))
+    (⊎-elim
+    (λ (p : (eqb v 0x53 ≡ true) × (Strike ≡ k)). eqb-true v 0x53 (p .0) ∙ ap kindByte (p .1))
+    (λ (p : (eqb v 0x54 ≡ true) × (Tick ≡ k)). eqb-true v 0x54 (p .0) ∙ ap kindByte (p .1)))
+    (kind-tests (eqb v 0x4f) (eqb v 0x53) (eqb v 0x54) k e)
 
 -- what a reader says of 24 bytes of a kind, none of them forbidden
 pub only-form : (k : Kind) (b : List ℕ) → length b ≡ 24 → ((i : ℕ) → getD b i 0 < 256) → Some k ≡ kindOf (getD b 0 0) → None ≡ firstForbidden k 1 (drop 1 b) → (c : Content) → c ≡ content k b → OnlyForm (Ok (Some c)) b
 only-form k b long small e f c is =
     let kind = kind-byte (getD b 0 0) k (sym e) in
     let ready = writable-whole b long small k kind (sym f) in
-    let reads = bare-whole k b ∙ sym is in
-    ( (whole k b, (ready, reads))
-    , λ x w h. ap encoded (same-content x (whole k b) w ready (h ∙ sym reads)) ∙ encoded-whole b long small k kind (sym f) )
+    let reads = bare-whole k b ∙ sym is in (
+      (whole k b, (ready, reads)),
+      λ x w h. ap encoded (same-content x (whole k b) w ready (h ∙ sym reads)) ∙ encoded-whole b long small k kind (sym f),
+    )

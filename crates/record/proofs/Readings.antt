@@ -1,28 +1,59 @@
--- What the reader answers at a place with a whole record.
+-- What the reader answers, and where it is afterwards, by what remains of the input.
 use mathlib.Core.Path.{_≡_, sym, ap, subst, _∙_}
-use mathlib.Core.Bool.{cond}
+use mathlib.Core.Bool.{false}
 use mathlib.Core.List.{List}
-use Prim.Native.Nat.{ℕ, _+_, _-_, _≤_}
+use Prim.Native.Nat.{ℕ, _+_, _-_, _≤_, _<_}
 use native.Mathlib.Omega.{arith}
 use lib.Dec.{eqb, ltb}
-use lib.ListN.{length, take, drop}
+use lib.ListN.{length, getD, take, drop}
 use Rattle.std.specs.declared.option.Option.{Option}
+use Rattle.std.specs.declared.option.Option.the-variants.{Some, None}
 use Rattle.std.specs.declared.result.Result.{Result}
-use Rattle.std.proofs.shelf.Tests.{cond-false, ne-eqb, le-ltb}
+use Rattle.std.specs.declared.result.Result.the-variants.{Ok, Err}
+use Rattle.std.proofs.shelf.Tests.{cond-true, cond-false, eq-eqb, ne-eqb, lt-ltb, le-ltb}
 use Rattle.record.specs.declared.fault.ReadFault.{ReadFault}
+use Rattle.record.specs.declared.fault.ReadFault.the-variants.{Cut}
+use Rattle.record.specs.declared.layout.Kind.{Kind}
 use Rattle.record.specs.BigEndian.{part}
 use Rattle.record.specs.Content.{Content}
+use Rattle.record.specs.Layout.{kindOf, firstForbidden}
+use Rattle.record.specs.Reading.{content, unlessForbidden, parsedAs, parsed, one, readAt, placeAfter}
 use Rattle.record.specs.RoundTrip.{OnlyForm}
-use Rattle.record.specs.Reading.{parsed, one, readAt, placeAfter}
 
-pub reads-whole : (s : List ℕ) (p m : ℕ) (r : Result Content ReadFault) → m ≡ 24 → 24 ≤ length s - p → r ≡ parsed p (take m (drop p s)) → one r ≡ readAt s p
-reads-whole s p m r e l h =
-    ap one (h ∙ ap (λ k. parsed p (take k (drop p s))) e)
-    ∙ sym (cond-false (eqb (length s - p) 0) _ _ (ne-eqb (length s - p) 0 (λ z. omega arith))
-           ∙ cond-false (ltb (length s - p) 24) _ _ (le-ltb (length s - p) 24 l))
+module _ (s : List ℕ) (p : ℕ) where
+  pub read-end : length s ≤ p → readAt s p ≡ Ok None
+  read-end h = cond-true (eqb (length s - p) 0) _ _ (eq-eqb (length s - p) 0 (omega arith))
 
-pub moves-on : (s : List ℕ) (p : ℕ) → 24 ≤ length s - p → p + 24 ≡ placeAfter s p
-moves-on s p l = sym (cond-false (ltb (length s - p) 24) _ _ (le-ltb (length s - p) 24 l))
+  more-left : p < length s → eqb (length s - p) 0 ≡ false
+  more-left h = ne-eqb (length s - p) 0 (λ z. omega arith)
 
-pub only-at : (s : List ℕ) (p m : ℕ) (r : Result (Option Content) ReadFault) → m ≡ 24 → OnlyForm r (take m (drop p s)) → OnlyForm r (part p 24 s)
-only-at s p m r e h = subst (λ k. OnlyForm r (take k (drop p s))) e h
+  pub read-cut : p < length s → length s < p + 24 → readAt s p ≡ Err (Cut p)
+  read-cut h k = cond-false (eqb (length s - p) 0) _ _ (more-left h) ∙ cond-true (ltb (length s - p) 24) _ _ (lt-ltb (length s - p) 24 (omega arith))
+
+  pub read-whole : p + 24 ≤ length s → readAt s p ≡ one (parsed p (part p 24 s))
+  read-whole h = cond-false (eqb (length s - p) 0) _ _ (more-left (omega arith)) ∙ cond-false (ltb (length s - p) 24) _ _ (le-ltb (length s - p) 24 (omega arith))
+
+  pub stays : length s < p + 24 → p ≤ length s → placeAfter s p ≡ p
+  stays h k = cond-true (ltb (length s - p) 24) p (p + 24) (lt-ltb (length s - p) 24 (omega arith))
+
+  pub moves-on : p + 24 ≤ length s → placeAfter s p ≡ p + 24
+  moves-on h = cond-false (ltb (length s - p) 24) p (p + 24) (le-ltb (length s - p) 24 (omega arith))
+
+  -- the same of a part of m bytes, where m is 24
+  pub reads-part : (m : ℕ) (r : Result Content ReadFault) → m ≡ 24 → p + 24 ≤ length s → r ≡ parsed p (take m (drop p s)) → one r ≡ readAt s p
+  reads-part m r e l h = ap one (h ∙ ap (λ k. parsed p (take k (drop p s))) e) ∙ sym (read-whole l)
+
+  pub only-part : (m : ℕ) (r : Result (Option Content) ReadFault) → m ≡ 24 → OnlyForm r (take m (drop p s)) → OnlyForm r (part p 24 s)
+  only-part m r e h = subst (λ k. OnlyForm r (take k (drop p s))) e h
+
+not-cut-unless : (p : ℕ) (c : Content) (o : Option ℕ) (at : ℕ) → unlessForbidden p o c ≡ Err (Cut at) → ⊥
+not-cut-unless p c None at e = let z : _≡_ {A = ℕ} 0 1 = cc in omega arith
+not-cut-unless p c (Some i) at e = let z : _≡_ {A = ℕ} 0 1 = cc in omega arith
+
+not-cut-as : (p : ℕ) (b : List ℕ) (k : Option Kind) (at : ℕ) → parsedAs p b k ≡ Err (Cut at) → ⊥
+not-cut-as p b None at e = let z : _≡_ {A = ℕ} 0 1 = cc in omega arith
+not-cut-as p b (Some k) at e = not-cut-unless p (content k b) (firstForbidden k 1 (drop 1 b)) at e
+
+-- a whole record is not cut
+pub not-cut : (p : ℕ) (b : List ℕ) (at : ℕ) → parsed p b ≡ Err (Cut at) → ⊥
+not-cut p b at e = not-cut-as p b (kindOf (getD b 0 0)) at e

@@ -15,16 +15,16 @@ use Rattle.std.proofs.shelf.Tests.{cond-true, cond-false, le-ltb, ltb-false, an
 use Rattle.record.specs.declared.fault.WriteFault.{WriteFault}
 use Rattle.record.specs.declared.fault.WriteFault.the-variants.{Field}
 use Rattle.record.specs.declared.fault.WrittenField.the-variants.{Arrival, Deadline, Label}
-use Rattle.record.specs.declared.kind.Kind.the-variants.{Offer}
+use Rattle.record.specs.declared.layout.Kind.the-variants.{Offer}
 use Rattle.record.specs.Content.{Content, offer, strike, tick}
 use Rattle.record.specs.Label.{trimmed, isLabel, allPrintable}
 use Rattle.record.specs.Layout.{printable, allows, firstForbidden}
-use Rattle.record.specs.Reading.{content, unlessForbidden, parsed, readAt}
+use Rattle.record.specs.Reading.{content, unlessForbidden, parsed, one, readAt}
 use Rattle.record.specs.RoundTrip.{Sized, bare, Writable, ReadsAs}
 use Rattle.record.specs.Writing.{checked, checkedOffer, encoded, encodedBy, roomFor, writeOf, writtenBy, writtenInto}
 use Rattle.record.proofs.BigEndian.{number-bytes}
 use Rattle.record.proofs.Labels.{label-parts}
-use Rattle.record.proofs.Readings.{reads-whole}
+use Rattle.record.proofs.Readings.{read-whole}
 
 tests : (p q r : Bool) → _≡_ {A = Result (Unit {0}) WriteFault} (cond p (Err (Field Arrival)) (cond q (Err (Field Deadline)) (cond r (Ok tt) (Err (Field Label))))) (Ok tt) → (p ≡ false) × (q ≡ false) × (r ≡ true)
 tests true q r e = let z : _≡_ {A = ℕ} 0 1 = cc in absurd (omega arith)
@@ -66,7 +66,7 @@ written-reads x h before after =
     let p = length before in
     let n = length-encoded x (h .1) in
     let here : take 24 (drop p s) ≡ e = ap (take 24) (drop-at before (e ++ after) p refl) ∙ take-at e after 24 n in
-    sym (reads-whole s p 24 (Ok (bare x)) refl (omega (arith, length-append before (e ++ after), length-append e after)) (sym (ap (parsed p) here ∙ parsed-encoded p x h)))
+    read-whole s p (omega (arith, length-append before (e ++ after), length-append e after)) ∙ ap one (ap (parsed p) here ∙ parsed-encoded p x h)
 
 encoded-by : (r : Result (Unit {0}) WriteFault) (b bs : List ℕ) → Ok bs ≡ encodedBy r b → (r ≡ Ok tt) × (bs ≡ b)
 encoded-by (Ok u) b bs e = (refl, cc)

@@ -11,8 +11,8 @@ use Rattle.std.specs.declared.result.Result.the-variants.{Ok, Err}
 use Rattle.record.specs.declared.content.Record.{Record}
 use Rattle.record.specs.declared.fault.ReadFault.{ReadFault}
 use Rattle.record.specs.declared.fault.ReadFault.the-variants.{Cut, UnknownKind, Forbidden}
-use Rattle.record.specs.declared.kind.Kind.{Kind}
-use Rattle.record.specs.declared.kind.Kind.the-variants.{Offer, Strike, Tick}
+use Rattle.record.specs.declared.layout.Kind.{Kind}
+use Rattle.record.specs.declared.layout.Kind.the-variants.{Offer, Strike, Tick}
 use Rattle.record.specs.Content.{Content, offer, strike, tick, contentOf}
 use Rattle.record.specs.Label.{trimmed}
 use Rattle.record.specs.Layout.{kindOf, firstForbidden}

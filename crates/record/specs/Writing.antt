@@ -9,8 +9,8 @@ use Rattle.std.specs.declared.result.Result.the-variants.{Ok, Err}
 use Rattle.record.specs.declared.fault.WriteFault.{WriteFault}
 use Rattle.record.specs.declared.fault.WriteFault.the-variants.{Field, Short}
 use Rattle.record.specs.declared.fault.WrittenField.the-variants.{Arrival, Deadline, Label}
-use Rattle.record.specs.declared.kind.Kind.{Kind}
-use Rattle.record.specs.declared.kind.Kind.the-variants.{Offer, Strike, Tick}
+use Rattle.record.specs.declared.layout.Kind.{Kind}
+use Rattle.record.specs.declared.layout.Kind.the-variants.{Offer, Strike, Tick}
 use Rattle.record.specs.Content.{Content, offer, strike, tick}
 use Rattle.record.specs.Label.{isLabel}
 use Rattle.record.specs.Layout.{kindByte}

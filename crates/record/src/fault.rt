@@ -1,24 +1,24 @@
 // Why a record is not read or not written.
 ghost use mathlib.Core.Path.{_≡_};
 ghost use Rattle.record.specs.Refusals.{readRefusal, writeRefusal};
-
 use refusal::Fault;
 use refusal::Layer;
 use refusal::Refusal;
 use refusal::Values;
 
-// Places count bytes from 0 over the whole input.
+/// Why a record is not read. Places count bytes from 0 over the whole input.
 #[derive(Clone, Copy, PartialEq, Eq, Debug)]
 pub enum ReadFault {
-    // 1 to 23 bytes remain, from this place on.
+    /// 1 to 23 bytes remain, from this place on. The reader stays there.
     Cut { place: usize },
-    // Byte 0 of the record at this place is no kind.
+    /// Byte 0 of the record at this place is no kind. The reader moves on to the next record.
     UnknownKind { place: usize },
-    // The byte at this place is the first of its record that the layout forbids.
+    /// The byte at this place is the first of its record after byte 0 that the layout forbids. The reader moves
+    /// on to the next record.
     Forbidden { place: usize },
 }
 
-// The fields that the writer checks, by their numbers.
+/// The fields that the writer checks, by their numbers.
 #[derive(Clone, Copy, PartialEq, Eq, Debug)]
 pub enum WrittenField {
     Arrival = 1,
@@ -26,11 +26,12 @@ pub enum WrittenField {
     Label = 3,
 }
 
+/// Why a record is not written.
 #[derive(Clone, Copy, PartialEq, Eq, Debug)]
 pub enum WriteFault {
-    // The field does not fit its bytes.
+    /// The field does not fit its bytes.
     Field(WrittenField),
-    // The list has fewer places than are needed.
+    /// The list has fewer places than are needed.
     Short { needed: usize },
 }
 
@@ -43,7 +44,11 @@ pub impl Fault for ReadFault as ReadRefusal {
             ReadFault::UnknownKind { place } => (2, place),
             ReadFault::Forbidden { place } => (3, place),
         };
-        Refusal { layer: Layer::Record, number, values: Values::One(place as u64) }
+        Refusal {
+            layer: Layer::Record,
+            number,
+            values: Values::One(place as u64),
+        }
     }
 }
 
@@ -55,6 +60,10 @@ pub impl Fault for WriteFault as WriteRefusal {
             WriteFault::Field(field) => (4, field as u64),
             WriteFault::Short { needed } => (10, needed as u64),
         };
-        Refusal { layer: Layer::Record, number, values: Values::One(value) }
+        Refusal {
+            layer: Layer::Record,
+            number,
+            values: Values::One(value),
+        }
     }
 }

@@ -1,14 +1,13 @@
 // The label of an offer.
 ghost use mathlib.Core.Path.{_≡_};
 ghost use Rattle.record.specs.Label.{trimmed, shownLabel, isLabel};
-
-use super::kind::is_printable;
+use super::layout::is_printable;
 
 // A label has six bytes.
-pub const LABEL_LEN: usize = 6;
+const LABEL_LEN: usize = 6;
 
 // The label without its last spaces.
-pub fn trim(label: &[u8]) -> &[u8]
+pub(super) fn trim(label: &[u8]) -> &[u8]
     ensures { λ r. ⌜ now r ≡ trimmed (now (label .entry)) ⌝ }
 {
     let mut n = label.len();
@@ -19,7 +18,7 @@ pub fn trim(label: &[u8]) -> &[u8]
 }
 
 // Whether these are six bytes that a label may hold.
-pub fn is_label(label: &[u8]) -> bool
+pub(super) fn is_label(label: &[u8]) -> bool
     ensures { λ r. ⌜ r ≡ isLabel (now (label .entry)) ⌝ }
 {
     if label.len() != LABEL_LEN {
@@ -33,7 +32,9 @@ pub fn is_label(label: &[u8]) -> bool
     true
 }
 
-// What a label shows: itself, or the caller's default text where it is blank.
+/// What the label of an offer that was read shows: itself, or the caller's default text where it is blank.
+///
+/// Neither is copied. `shown(b"fader", b"house")` is the bytes `fader`, and `shown(b"", b"house")` is `house`.
 pub fn shown<'a>(label: &'a [u8], default: &'a [u8]) -> &'a [u8]
     ensures { λ r. ⌜ now r ≡ shownLabel (now (label .entry)) (now (default .entry)) ⌝ }
 {

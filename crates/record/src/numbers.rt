@@ -4,7 +4,7 @@ ghost use lib.ListN.{length};
 ghost use Rattle.record.specs.BigEndian.{number};
 
 // The number in two bytes.
-pub fn read_u16(bytes: &[u8]) -> u16
+pub(super) fn read_u16(bytes: &[u8]) -> u16
     requires { ⌜ length (now bytes) ≡ 2 ⌝ }
     ensures { λ r. ⌜ r ≡ number (now (bytes .entry)) ⌝ }
 {
@@ -12,9 +12,18 @@ pub fn read_u16(bytes: &[u8]) -> u16
 }
 
 // The number in six bytes.
-pub fn read_u48(bytes: &[u8]) -> u64
+pub(super) fn read_u48(bytes: &[u8]) -> u64
     requires { ⌜ length (now bytes) ≡ 6 ⌝ }
     ensures { λ r. ⌜ r ≡ number (now (bytes .entry)) ⌝ }
 {
-    u64::from_be_bytes([0, 0, bytes[0], bytes[1], bytes[2], bytes[3], bytes[4], bytes[5]])
+    u64::from_be_bytes([
+        0,
+        0,
+        bytes[0],
+        bytes[1],
+        bytes[2],
+        bytes[3],
+        bytes[4],
+        bytes[5],
+    ])
 }

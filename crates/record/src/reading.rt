@@ -7,12 +7,16 @@ ghost use Rattle.record.specs.Content.{contentOf};
 ghost use Rattle.record.specs.Reading.{content, parsed, parsedBy, one, readAt, readBy, placeAfter};
 ghost use Rattle.record.specs.RoundTrip.{OnlyForm};
 ghost use Rattle.record.specs.BigEndian.{part};
-
-use super::RECORD_LEN;
 use super::content::Record;
 use super::fault::ReadFault;
-use super::kind::Kind;
 use super::label::trim;
+use super::layout::ARRIVAL;
+use super::layout::DEADLINE;
+use super::layout::Kind;
+use super::layout::LABEL;
+use super::layout::RECORD_LEN;
+use super::layout::TICKET;
+use super::layout::WORK;
 use super::numbers::read_u16;
 use super::numbers::read_u48;
 
@@ -23,13 +27,15 @@ fn content_of<'a>(kind: Kind, bytes: &'a [u8]) -> Record<'a>
 {
     match kind {
         Kind::Offer => Record::Offer {
-            ticket: read_u16(&bytes[2..4]),
-            arrival: read_u48(&bytes[4..10]),
-            deadline: read_u48(&bytes[10..16]),
-            work: read_u16(&bytes[16..18]),
-            label: trim(&bytes[18..24]),
+            ticket: read_u16(&bytes[TICKET..ARRIVAL]),
+            arrival: read_u48(&bytes[ARRIVAL..DEADLINE]),
+            deadline: read_u48(&bytes[DEADLINE..WORK]),
+            work: read_u16(&bytes[WORK..LABEL]),
+            label: trim(&bytes[LABEL..RECORD_LEN]),
         },
-        Kind::Strike => Record::Strike { ticket: read_u16(&bytes[2..4]) },
+        Kind::Strike => Record::Strike {
+            ticket: read_u16(&bytes[TICKET..ARRIVAL]),
+        },
         Kind::Tick => Record::Tick,
     }
 }
@@ -49,6 +55,14 @@ fn parse<'a>(bytes: &'a [u8], place: usize) -> Result<Record<'a>, ReadFault>
     Ok(content_of(kind, bytes))
 }
 
+/// Reads the records of an input one after another.
+///
+/// An offer's label is a part of the input, so the records may outlive the reader:
+///
+/// ```text
+/// let mut reader = Reader::new(input);
+/// while let Some(record) = reader.next()? { .. }
+/// ```
 #[derive(Drop)]
 pub struct Reader<'a> {
     input: &'a [u8],
@@ -57,21 +71,24 @@ pub struct Reader<'a> {
 }
 
 impl<'a> Reader<'a> {
-    // A reader at the start of the input.
+    /// A reader at the start of the input.
     pub fn new(input: &'a [u8]) -> Reader<'a>
         ensures { λ r. ⌜ r .place ≡ 0 ⌝ ∗ ⌜ now (r .input) ≡ now (input .entry) ⌝ }
     {
         Reader { input, place: 0 }
     }
 
-    // Where the next record stands.
+    /// The place of the next record, in bytes from the start of the input.
     pub fn place(&self) -> usize
         ensures { λ r. ⌜ r ≡ now (self .entry) .place ⌝ }
     {
         self.place
     }
 
-    // The next record, or none at the end of the input.
+    /// The next record, or `None` at the end of the input.
+    ///
+    /// Refuses a record that is cut, of an unknown kind or with a byte that its layout forbids, with the values that
+    /// [`ReadFault`] names. After the last two it goes on with the next record.
     pub fn next(&mut self) -> Result<Option<Record<'a>>, ReadFault>
         ensures said { λ r. ⌜ readBy r ≡ readAt (now (now (self .entry) .input)) (now (self .entry) .place) ⌝ }
         ensures only { λ r. ⌜ OnlyForm (readBy r) (part (now (self .entry) .place) 24 (now (now (self .entry) .input))) ⌝ }

@@ -6,13 +6,17 @@ ghost use Rattle.std.specs.Results.{isOk};
 ghost use Rattle.record.specs.Content.{contentOf};
 ghost use Rattle.record.specs.Writing.{laidOut, encoded, encodedBy, checked, checkedOffer, writeOf, writtenInto};
 ghost use Rattle.record.specs.RoundTrip.{Sized, bare, ReadsAs};
-
-use super::RECORD_LEN;
 use super::content::Record;
 use super::fault::WriteFault;
 use super::fault::WrittenField;
-use super::kind::Kind;
 use super::label::is_label;
+use super::layout::ARRIVAL;
+use super::layout::DEADLINE;
+use super::layout::Kind;
+use super::layout::LABEL;
+use super::layout::RECORD_LEN;
+use super::layout::TICKET;
+use super::layout::WORK;
 
 // The greatest number that fits six bytes.
 const MAX_TICK: u64 = 0xffff_ffff_ffff;
@@ -37,28 +41,41 @@ fn check_offer(arrival: u64, deadline: u64, label: &[u8]) -> Result<(), WriteFau
 const BLANK: &[u8] = b"      ";
 
 // 24 bytes with these fields, of which the ticks fit six bytes.
-fn lay_out(kind: Kind, ticket: u16, arrival: u64, deadline: u64, work: u16, label: &[u8]) -> [u8; 24]
+fn lay_out(
+    kind: Kind,
+    ticket: u16,
+    arrival: u64,
+    deadline: u64,
+    work: u16,
+    label: &[u8],
+) -> [u8; RECORD_LEN]
     requires { ⌜ length (now label) ≡ 6 ⌝ }
     ensures { λ r. ⌜ r ≡ laidOut kind ticket arrival deadline work (now (label .entry)) ⌝ }
 {
-    let mut bytes = [0; 24];
+    let mut bytes = [0; RECORD_LEN];
     bytes[0] = kind.byte();
-    bytes[2..4].copy_from_slice(&ticket.to_be_bytes());
-    bytes[4..10].copy_from_slice(&arrival.to_be_bytes()[2..8]);
-    bytes[10..16].copy_from_slice(&deadline.to_be_bytes()[2..8]);
-    bytes[16..18].copy_from_slice(&work.to_be_bytes());
-    bytes[18..24].copy_from_slice(label);
+    bytes[TICKET..ARRIVAL].copy_from_slice(&ticket.to_be_bytes());
+    bytes[ARRIVAL..DEADLINE].copy_from_slice(&arrival.to_be_bytes()[2..8]);
+    bytes[DEADLINE..WORK].copy_from_slice(&deadline.to_be_bytes()[2..8]);
+    bytes[WORK..LABEL].copy_from_slice(&work.to_be_bytes());
+    bytes[LABEL..RECORD_LEN].copy_from_slice(label);
     bytes
 }
 
 impl Record<'_> {
     // The bytes of the record, where its fields fit them.
-    fn encode(&self) -> Result<[u8; 24], WriteFault>
+    fn encode(&self) -> Result<[u8; RECORD_LEN], WriteFault>
         ensures said { λ r. ⌜ r ≡ encodedBy (checked (contentOf (now (self .entry)))) (encoded (contentOf (now (self .entry)))) ⌝ }
         ensures sized { λ _. ⌜ Sized (contentOf (now (self .entry))) ⌝ }
     {
         match *self {
-            Record::Offer { ticket, arrival, deadline, work, label } => {
+            Record::Offer {
+                ticket,
+                arrival,
+                deadline,
+                work,
+                label,
+            } => {
                 check_offer(arrival, deadline, label)?;
                 Ok(lay_out(Kind::Offer, ticket, arrival, deadline, work, label))
             }
@@ -67,7 +84,10 @@ impl Record<'_> {
         }
     }
 
-    // Writes the record into the first 24 places of the list.
+    /// Writes the record into the first 24 places of the list, and leaves the rest of it.
+    ///
+    /// Refuses an offer whose arrival, deadline or label does not fit, in this order, and then a list of fewer than 24
+    /// places; a refused call changes nothing. The bytes read back as this record, but for the last spaces of its label.
     pub fn write_to(&self, out: &mut [u8]) -> Result<(), WriteFault>
         ensures said { λ r. ⌜ r ≡ writeOf (contentOf (now (self .entry))) (now (out .entry)) ⌝ }
         ensures written { λ _. ⌜ now (out .exit) ≡ writtenInto (contentOf (now (self .entry))) (now (out .entry)) ⌝ }

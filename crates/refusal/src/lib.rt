@@ -3,7 +3,6 @@ ghost use mathlib.Core.Path.{_≡_};
 ghost use Rattle.std.specs.declared.option.Option.the-variants.{Some};
 ghost use Rattle.refusal.specs.declared.Refusal.{Refusal as Told};
 ghost use Rattle.refusal.specs.Text.{refusalText};
-
 use std::fmt;
 
 // The layer that refused.

@@ -8,7 +8,6 @@ use Rattle.std.specs.declared.option.Option.{Option}
 use Rattle.std.specs.declared.option.Option.the-variants.{Some, None}
 use Rattle.std.specs.declared.result.Result.{Result}
 use Rattle.std.specs.declared.result.Result.the-variants.{Ok, Err}
-use Rattle.refusal.specs.declared.Refusal.{Refusal}
 use Rattle.record.specs.declared.fault.ReadFault.{ReadFault}
 use Rattle.record.specs.Content.{Content, offer, strike, tick}
 use Rattle.record.specs.Label.{shownLabel}
@@ -17,21 +16,21 @@ use Rattle.transcript.specs.declared.fault.BenchFault.{BenchFault}
 use Rattle.transcript.specs.declared.fault.BenchFault.the-variants.{Read}
 use Rattle.transcript.specs.declared.line.Line.{Line}
 use Rattle.transcript.specs.declared.line.Line.the-variants.{Offer, Strike, Tick, Refused}
-use Rattle.transcript.specs.Refusals.{benchRefusal, endsRun}
+use Rattle.transcript.specs.Refusals.{endsRun}
 
 -- an entry of the transcript
 pub data Entry : Type 0 where
   offered : (ticket arrival deadline work : ℕ) (label : List ℕ) → Entry
   struck : (ticket : ℕ) → Entry
   ticked : Entry
-  refused : (place : ℕ) (refusal : Refusal) → Entry
+  refused : (place : ℕ) (fault : BenchFault) → Entry
 
 -- the entry that a line of the code stands for
 abbrev pub entryOf : Line → Entry
 entryOf (Offer t a d w l) = offered t a d w (now l)
 entryOf (Strike t) = struck t
 entryOf Tick = ticked
-entryOf (Refused place r) = refused place r
+entryOf (Refused place f) = refused place f
 
 abbrev pub contentEntry : Content → Entry
 contentEntry (offer t a d w l) = offered t a d w (shownLabel l (codes "house"))
@@ -51,7 +50,7 @@ worked input place = workedEntry (readAt input place)
 -- a fault is an entry too, with the place of its record
 abbrev pub toldEntry : ℕ → Result (Option Entry) BenchFault → Option Entry
 toldEntry place (Ok e) = e
-toldEntry place (Err f) = Some (refused place (benchRefusal f))
+toldEntry place (Err f) = Some (refused place f)
 
 -- the entry of the record at a place of the input
 abbrev pub entryAt : List ℕ → ℕ → Option Entry

@@ -9,13 +9,14 @@ use Rattle.std.specs.shelf.Lists.{joined}
 use Rattle.std.specs.declared.option.Option.{Option}
 use Rattle.std.specs.declared.option.Option.the-variants.{Some, None}
 use Rattle.refusal.specs.Text.{spaced, refusalText}
+use Rattle.transcript.specs.Refusals.{benchRefusal}
 use Rattle.transcript.specs.Entries.{Entry, offered, struck, ticked, refused, entryAt}
 
 abbrev pub entryText : Entry → List ℕ
 entryText (offered t a d w l) = codes "O" ++ (spaced t ++ (spaced a ++ (spaced d ++ (spaced w ++ (32 ∷ l)))))
 entryText (struck t) = codes "S" ++ spaced t
 entryText ticked = codes "T"
-entryText (refused place r) = codes "R" ++ (spaced place ++ (32 ∷ refusalText r))
+entryText (refused place f) = codes "R" ++ (spaced place ++ (32 ∷ refusalText (benchRefusal f)))
 
 abbrev pub lineText : Option Entry → List ℕ
 lineText (Some e) = entryText e ++ (10 ∷ [])

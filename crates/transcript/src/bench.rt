@@ -4,15 +4,12 @@ ghost use mathlib.Core.Bool.{false};
 ghost use Rattle.std.specs.Text.{Ascii};
 ghost use Rattle.transcript.specs.Entries.{entryBy, workedBy, worked, nextEntry, nextPlace, nextOver};
 ghost use Rattle.record.specs.Reading.{placeAfter};
-
 use super::fault::BenchFault;
 use super::fault::BenchFromRead;
-use super::fault::BenchRefusal;
 use super::line::Line;
 use record::Reader;
 use record::Record;
 use record::shown;
-use refusal::Fault;
 use std::str::from_utf8;
 
 // What a blank label shows.
@@ -29,6 +26,7 @@ fn text(label: &[u8]) -> &str
     }
 }
 
+/// Works the records of a file one by one.
 #[derive(Drop)]
 pub struct Bench<'a> {
     reader: Reader<'a>,
@@ -37,11 +35,14 @@ pub struct Bench<'a> {
 }
 
 impl<'a> Bench<'a> {
-    // A bench at the start of the input.
+    /// A bench at the start of the input.
     pub fn new(input: &'a [u8]) -> Bench<'a>
         ensures { λ r. ⌜ now (r .reader .input) ≡ now (input .entry) ⌝ ∗ ⌜ r .reader .place ≡ 0 ⌝ ∗ ⌜ r .over ≡ false ⌝ }
     {
-        Bench { reader: Reader::new(input), over: false }
+        Bench {
+            reader: Reader::new(input),
+            over: false,
+        }
     }
 
     // Reads the next record, and says what it is.
@@ -54,17 +55,31 @@ impl<'a> Bench<'a> {
         let Some(record) = self.reader.next()? else {
             return Ok(None);
         };
-        Ok(Some(match record {
-            Record::Offer { ticket, arrival, deadline, work, label } => {
-                let label = text(shown(label, DEFAULT_LABEL));
-                Line::Offer { ticket, arrival, deadline, work, label }
-            }
-            Record::Strike { ticket } => Line::Strike { ticket },
-            Record::Tick => Line::Tick,
-        }))
+        Ok(Some(
+            match record {
+                Record::Offer {
+                    ticket,
+                    arrival,
+                    deadline,
+                    work,
+                    label,
+                } => {
+                    let label = text(shown(label, DEFAULT_LABEL));
+                    Line::Offer {
+                        ticket,
+                        arrival,
+                        deadline,
+                        work,
+                        label,
+                    }
+                }
+                Record::Strike { ticket } => Line::Strike { ticket },
+                Record::Tick => Line::Tick,
+            },
+        ))
     }
 
-    // The line of the next record. There is none after the last record, nor after a cut one.
+    /// The line of the next record. There is none after the last record, nor after a cut one.
     pub fn next_line(&mut self) -> Option<Line<'a>>
         ensures said { λ r. ⌜ entryBy r ≡ nextEntry (now (self .entry) .over) (now (now (self .entry) .reader .input)) (now (self .entry) .reader .place) ⌝ }
         ensures place { λ _. ⌜ now (self .exit) .reader .place ≡ nextPlace (now (self .entry) .over) (now (now (self .entry) .reader .input)) (now (self .entry) .reader .place) ⌝ }
@@ -79,7 +94,7 @@ impl<'a> Bench<'a> {
             Ok(line) => line,
             Err(fault) => {
                 self.over = fault.ends_run();
-                Some(Line::Refused { place, refusal: fault.refusal() })
+                Some(Line::Refused { place, fault })
             }
         }
     }

@@ -1,17 +1,18 @@
-// Why the bench refuses a record. Each layer keeps the fault of the layer below whole.
+// The faults of the bench. Each layer keeps the fault of the layer below whole.
 ghost use mathlib.Core.Path.{_≡_};
 ghost use Rattle.transcript.specs.declared.fault.BenchFault.the-variants.{Read};
 ghost use Rattle.transcript.specs.Refusals.{benchRefusal, endsRun};
-
 use record::ReadFault;
+use record::ReadFaultDebug;
+use record::ReadFaultPartialEq;
 use record::ReadRefusal;
 use refusal::Fault;
 use refusal::Refusal;
-use record::ReadFaultDebug;
-use record::ReadFaultPartialEq;
 
+/// Why the bench refuses a record.
 #[derive(Clone, Copy, PartialEq, Eq, Debug)]
 pub enum BenchFault {
+    /// The record is not read.
     Read(ReadFault),
 }
 
@@ -34,7 +35,7 @@ pub impl Fault for BenchFault as BenchRefusal {
 }
 
 impl BenchFault {
-    // Whether no record can follow: a cut record is the last.
+    /// Whether the fault ends the run: no record can follow a cut one.
     pub fn ends_run(self) -> bool
         ensures { λ r. ⌜ r ≡ endsRun self ⌝ }
     {

@@ -30,8 +30,9 @@ returns c =
     let s = c .args .label .now in
     let n = c .loop-n .n in
     let z : ending (eqb 32) (take n s) ≡ 0 =
-        elim (c .loop-n-test .came) [
-          then-loop-n-test·else-label-n-eq32 w ↦ ending-take-no (eqb 32) s n 0 (w .loop-n-test .taken) (c .loop-n .inv .0) (ne-eqb 32 _ (λ e. w .if-label-n-eq32 .left (sym e)))
-        | else-loop-n-test w ↦ let q : n ≡ 0 = omega (arith, w .loop-n-test .left) in ap (λ k. ending (eqb 32) (take k s)) q ]
+    elim (c .loop-n-test .came) [
+      | then-loop-n-test·else-label-n-eq32 w ↦ ending-take-no (eqb 32) s n 0 (w .loop-n-test .taken) (c .loop-n .inv .0) (ne-eqb 32 _ (λ e. w .if-label-n-eq32 .left (sym e)))
+      | else-loop-n-test w ↦ let q : n ≡ 0 = omega (arith, w .loop-n-test .left) in ap (λ k. ending (eqb 32) (take k s)) q
+    ]
     in
     trim-done s n (c .loop-n .inv .0) (c .loop-n .inv .1) z

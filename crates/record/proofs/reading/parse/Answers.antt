@@ -14,5 +14,7 @@ add-result c =
 
 pub returns : need.returns
 returns c =
-    record { said = search needs
-           ; only = only-form (c .in-Some .kind) (c .args .bytes .now) (c .pre .0) (λ i. omega (arith, c .typed .bytes i)) (c .in-Some .ensures tt) (c .in-rest-first-forbidden .ensures tt) (contentOf (c .content-of .result)) (c .content-of .ensures) }
+    record {
+      said = search needs;
+      only = only-form (c .in-Some .kind) (c .args .bytes .now) (c .pre .0) (λ i. omega (arith, c .typed .bytes i)) (c .in-Some .ensures tt) (c .in-rest-first-forbidden .ensures tt) (contentOf (c .content-of .result)) (c .content-of .ensures);
+    }

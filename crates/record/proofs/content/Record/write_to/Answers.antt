@@ -9,6 +9,8 @@ returns c =
     let made = c .in-Continue-bytes .ensures tt .said in
     let room = c .if-out-lt-RECORD-LEN .left in
     let put = c .copy-from-slice .ensures .after in
-    record { said = write-accepts x s (c .in-Continue-bytes .bytes) made room
-           ; written = write-fills x s (c .in-Continue-bytes .bytes) made room (c .copy-from-slice .last .self) put
-           ; back = λ ok. write-reads x s (c .in-Continue-bytes .bytes) made room (c .copy-from-slice .last .self) put (c .in-Continue-bytes .ensures tt .sized) }
+    record {
+      said = write-accepts x s (c .in-Continue-bytes .bytes) made room;
+      written = write-fills x s (c .in-Continue-bytes .bytes) made room (c .copy-from-slice .last .self) put;
+      back = λ ok. write-reads x s (c .in-Continue-bytes .bytes) made room (c .copy-from-slice .last .self) put (c .in-Continue-bytes .ensures tt .sized);
+    }

@@ -18,14 +18,19 @@ loop-line-again g c =
     let e = entryOf (c .in-Some .line) in
     let n = c .in-Some .ensures tt in
     let went = onward s over p k e (v .1 .1 .0) (sym (n .said ∙ ap (λ (x : List ℕ). nextEntry over x p) (v .0))) in
-    let text : front s k ++ lineText (Some e) ≡ front s (k + 1) = sym (front-more s k ∙ ap (λ o. front s k ++ lineText o) (went .entry)) in
-    ( n .input ∙ v .0
-    , (k + 1
-    , ( running-is s _ (nextOver over s p) _ (nextPlace over s p) (k + 1) (n .over ∙ ap (λ (x : List ℕ). nextOver over x p) (v .0)) (n .place ∙ ap (λ (x : List ℕ). nextPlace over x p) (v .0)) (went .running)
-      , λ plain.
-          let before = v .1 .1 .1 plain in
-          put-is (g .W·Write .took) (c .args .f .now) _ (front s (k + 1)) _ text
-            (put-more (g .W·Write .took) (c .args .f .now) (front s k) (c .loop-line .f) (lineText (Some e)) _ before (c .in-Continue-writeln .ensures tt .shows (before .plain) refl)) )))
+    let text : front s k ++ lineText (Some e) ≡ front s (k + 1) = sym (front-more s k ∙ ap (λ o. front s k ++ lineText o) (went .entry)) in (
+      n .input ∙ v .0,
+      (
+        k + 1,
+        (
+          running-is s _ (nextOver over s p) _ (nextPlace over s p) (k + 1) (n .over ∙ ap (λ (x : List ℕ). nextOver over x p) (v .0)) (n .place ∙ ap (λ (x : List ℕ). nextPlace over x p) (v .0)) (went .running),
+          λ plain.
+              let before = v .1 .1 .1 plain in
+              put-is (g .W·Write .took) (c .args .f .now) _ (front s (k + 1)) _ text
+              (put-more (g .W·Write .took) (c .args .f .now) (front s k) (c .loop-line .f) (lineText (Some e)) _ before (c .in-Continue-writeln .ensures tt .shows (before .plain) refl)),
+        ),
+      ),
+    )
 
 pub returns : need.returns
 returns g c plain ok =

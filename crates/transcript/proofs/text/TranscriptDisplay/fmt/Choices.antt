@@ -9,7 +9,7 @@ abbrev pub Inv-loop-line : given.InvT-loop-line
 Inv-loop-line g l =
     (l .bench .reader .input .now ≡ l .self .input .now)
     × ((k : ℕ) × (Running (l .self .input .now) (l .bench .over) (l .bench .reader .place) k
-                  × (Plain (l .entry .f) → Put (g .W·Write .took) (l .entry .f) (front (l .self .input .now) k) (l .f))))
+    × (Plain (l .entry .f) → Put (g .W·Write .took) (l .entry .f) (front (l .self .input .now) k) (l .f))))
 
 abbrev pub μ-loop-line : given.MeasureT-loop-line
 μ-loop-line g l = left (l .bench .reader .input .now) (l .bench .over) (l .bench .reader .place)

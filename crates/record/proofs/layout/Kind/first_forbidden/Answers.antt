@@ -1,6 +1,6 @@
 use mathlib.Core.Path.{sym, _∙_}
 use Rattle.record.proofs.Layouts.{allowed-on, forbidden-here, forbidden-none}
-use Rattle.record.proofs.kind.Kind.first_forbidden.Needs as need
+use Rattle.record.proofs.layout.Kind.first_forbidden.Needs as need
 
 pub returns-then-not-allows : need.returns-then-not-allows
 returns-then-not-allows c =

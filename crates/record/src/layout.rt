@@ -1,22 +1,32 @@
-// The kind of a record, and the bytes that its layout allows.
+// The layout of a record: where its fields stand, its kinds, and the bytes that each kind allows.
 ghost use mathlib.Core.Path.{_≡_};
-ghost use Prim.Native.Nat.{_≤_};
-ghost use lib.ListN.{length, drop};
+ghost use lib.ListN.{drop};
 ghost use Rattle.record.specs.Layout.{kindByte, kindOf, numbersEnd, printable, allows, firstForbidden};
 
-// The numbers stand from NUMBERS up to LABEL, the label from there to the end.
-pub const NUMBERS: usize = 2;
-pub const LABEL: usize = 18;
+// Where each field begins. A field ends where the next begins, the label at the record's end.
+pub(super) const TICKET: usize = 2;
 
+pub(super) const ARRIVAL: usize = 4;
+
+pub(super) const DEADLINE: usize = 10;
+
+pub(super) const WORK: usize = 16;
+
+pub(super) const LABEL: usize = 18;
+
+/// The bytes of one record.
+pub const RECORD_LEN: usize = 24;
+
+// What a record is, by its byte 0.
 #[derive(Clone, Copy, PartialEq, Debug)]
-pub enum Kind {
+pub(super) enum Kind {
     Offer = 0x4f,
     Strike = 0x53,
     Tick = 0x54,
 }
 
 // Whether a label may hold the byte.
-pub fn is_printable(byte: u8) -> bool
+pub(super) fn is_printable(byte: u8) -> bool
     ensures { λ r. ⌜ r ≡ printable byte ⌝ }
 {
     0x20 <= byte && byte <= 0x7e
@@ -24,14 +34,14 @@ pub fn is_printable(byte: u8) -> bool
 
 impl Kind {
     // The byte that stands for the kind.
-    pub fn byte(self) -> u8
+    pub(super) fn byte(self) -> u8
         ensures { λ r. ⌜ r ≡ kindByte self ⌝ }
     {
         self as u8
     }
 
     // The kind whose byte this is.
-    pub fn of(byte: u8) -> Option<Kind>
+    pub(super) fn of(byte: u8) -> Option<Kind>
         ensures { λ r. ⌜ r ≡ kindOf byte ⌝ }
     {
         match byte {
@@ -42,14 +52,14 @@ impl Kind {
         }
     }
 
-    // Where the numbers that a record of this kind has end: the rest up to the label is zeros.
+    // Where the numbers of a record of this kind end; zeros follow up to the label.
     fn numbers_end(self) -> usize
         ensures { λ r. ⌜ r ≡ numbersEnd self ⌝ }
     {
         match self {
             Kind::Offer => LABEL,
-            Kind::Strike => 4,
-            Kind::Tick => NUMBERS,
+            Kind::Strike => ARRIVAL,
+            Kind::Tick => TICKET,
         }
     }
 
@@ -58,7 +68,7 @@ impl Kind {
         ensures { λ r. ⌜ r ≡ allows self at byte ⌝ }
     {
         if at < LABEL {
-            (NUMBERS <= at && at < self.numbers_end()) || byte == 0
+            (TICKET <= at && at < self.numbers_end()) || byte == 0
         } else {
             match self {
                 Kind::Offer => is_printable(byte),
@@ -67,8 +77,8 @@ impl Kind {
         }
     }
 
-    // The first byte after byte 0 that the layout forbids.
-    pub fn first_forbidden(self, bytes: &[u8]) -> Option<usize>
+    // The first place after byte 0 that the layout forbids.
+    pub(super) fn first_forbidden(self, bytes: &[u8]) -> Option<usize>
         ensures { λ r. ⌜ r ≡ firstForbidden self 1 (drop 1 (now (bytes .entry))) ⌝ }
     {
         for at in 1..bytes.len() {

@@ -1,7 +1,7 @@
 use mathlib.Core.Path.{_≡_}
 use lib.ListN.{drop}
 use Rattle.record.specs.Layout.{firstForbidden}
-use Rattle.record.proofs.kind.Kind.first_forbidden.Given as given
+use Rattle.record.proofs.layout.Kind.first_forbidden.Given as given
 
 -- what is left to look at gives what the whole gives
 abbrev pub Inv-loop-at : given.InvT-loop-at
