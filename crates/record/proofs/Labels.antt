@@ -14,10 +14,6 @@ use Rattle.std.proofs.shelf.Tests.{eq-eqb, ne-eqb, eqb-true, and-parts, cases-l
 use Rattle.record.specs.Layout.{printable}
 use Rattle.record.specs.Label.{trimmed, allPrintable, isLabel}
 
--- the loop that counts n down from the end stops where the label ends
-pub trim-done : (l : List ℕ) (n : ℕ) → n ≤ length l → n + ending (eqb 0x20) l ≡ length l + ending (eqb 0x20) (take n l) → ending (eqb 0x20) (take n l) ≡ 0 → take (n - 0) l ≡ trimmed l
-trim-done l n h e z = let q : n - 0 ≡ length l - ending (eqb 0x20) l = omega (arith, e, z) in ap (λ k. take k l) q
-
 module _ (l : List ℕ) (i : ℕ) (h : i < length l) where
   pub printable-on : printable (getD l i 0) ≡ true → allPrintable (drop i l) ≡ allPrintable (drop (i + 1) l)
   printable-on e = at-drop-more allPrintable l i 0 h ∙ ap (λ b. b && allPrintable (drop (i + 1) l)) e

@@ -7,9 +7,13 @@ use lib.ListN.{length, take}
 use Rattle.std.specs.shelf.Lists.{ending}
 use Rattle.record.specs.Layout.{printable}
 
+-- the length without the last spaces
+abbrev pub trimmedLength : List ℕ → ℕ
+trimmedLength l = length l - ending (eqb 0x20) l
+
 -- without the last spaces
 abbrev pub trimmed : List ℕ → List ℕ
-trimmed l = take (length l - ending (eqb 0x20) l) l
+trimmed l = take (trimmedLength l) l
 
 -- the label itself, or the default text where it has no bytes
 abbrev pub shownLabel : List ℕ → List ℕ → List ℕ

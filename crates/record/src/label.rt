@@ -1,20 +1,28 @@
 // The label of an offer.
 ghost use mathlib.Core.Path.{_≡_};
-ghost use Rattle.record.specs.Label.{trimmed, shownLabel, isLabel};
+ghost use Rattle.record.specs.Label.{trimmedLength, trimmed, shownLabel, isLabel};
 use super::layout::is_printable;
 
 // A label has six bytes.
 const LABEL_LEN: usize = 6;
 
+// Where the last spaces of the label begin.
+fn trimmed_len(label: &[u8]) -> usize
+    ensures { λ r. ⌜ r ≡ trimmedLength (now (label .entry)) ⌝ }
+{
+    let mut len = label.len();
+    while len > 0 && label[len - 1] == b' ' {
+        len -= 1;
+    }
+    len
+}
+
 // The label without its last spaces.
 pub(super) fn trim(label: &[u8]) -> &[u8]
     ensures { λ r. ⌜ now r ≡ trimmed (now (label .entry)) ⌝ }
 {
-    let mut n = label.len();
-    while n > 0 && label[n - 1] == b' ' {
-        n -= 1;
-    }
-    &label[0..n]
+    let len = trimmed_len(label);
+    &label[0..len]
 }
 
 // Whether these are six bytes that a label may hold.

@@ -85,6 +85,18 @@ impl<'a> Reader<'a> {
         self.place
     }
 
+    // Passes over one record.
+    fn pass(&mut self)
+        requires { ⌜ now self .place + 24 ≤ length (now (now self .input)) ⌝ }
+        ensures place { λ _. ⌜ now (self .exit) .place ≡ now (self .entry) .place + 24 ⌝ }
+        ensures input { λ _. ⌜ now (now (self .exit) .input) ≡ now (now (self .entry) .input) ⌝ }
+    {
+        *self = Reader {
+            input: self.input,
+            place: self.place + RECORD_LEN,
+        };
+    }
+
     /// The next record, or `None` at the end of the input.
     ///
     /// Refuses a record that is cut, of an unknown kind or with a byte that its layout forbids, with the values that
@@ -103,8 +115,9 @@ impl<'a> Reader<'a> {
         if left < RECORD_LEN {
             return Err(ReadFault::Cut { place });
         }
-        self.place = place + RECORD_LEN;
-        let record = parse(&self.input[place..place + RECORD_LEN], place)?;
+        let bytes = &self.input[place..place + RECORD_LEN];
+        self.pass();
+        let record = parse(bytes, place)?;
         Ok(Some(record))
     }
 }

@@ -19,107 +19,100 @@ use Rattle.record.specs.declared.fault.ReadFault.{ReadFault}
 use Rattle.record.specs.declared.fault.ReadFault.the-variants.{Cut, UnknownKind, Forbidden}
 use Rattle.record.specs.BigEndian.{part}
 use Rattle.record.specs.Content.{Content}
-use Rattle.record.specs.Reading.{parsed, one, placeAfter}
+use Rattle.record.specs.Reading.{parsed, one, readAt, placeAfter}
 use Rattle.record.proofs.Readings.{read-end, read-cut, read-whole, not-cut, stays, moves-on}
 use Rattle.transcript.specs.declared.fault.BenchFault.the-variants.{Read}
-use Rattle.transcript.specs.Entries.{Entry, refused, workedEntry, worked, toldEntry, entryAt, overBy, nextEntry, nextPlace, nextOver}
+use Rattle.transcript.specs.Entries.{Entry, refused, readEntry, stepAt, toldEntry, entryAt, overBy}
+use Rattle.transcript.specs.Run.{Run, startOf, nextEntry, nextRun}
 use Rattle.transcript.specs.Text.{lineText, records}
 
+-- what remains of an input at a place: nothing, less than a record, or a record
+data Remains (s : List ℕ) (p : ℕ) : Type 0 where
+  none : length s ≤ p → Remains s p
+  cut : p < length s → length s < p + 24 → Remains s p
+  whole : p + 24 ≤ length s → Remains s p
+
+remains : (s : List ℕ) (p : ℕ) → Remains s p
+remains s p =
+    ⊎-elim
+    (λ (a : p < length s). ⊎-elim (λ (b : length s < p + 24). cut a b) (λ (b : p + 24 ≤ length s). whole b) (cases-lt (length s) (p + 24)))
+    (λ (a : length s ≤ p). none a)
+    (cases-lt p (length s))
+
 -- a record that is not cut does not end the run
-goes-on : (r : Result Content ReadFault) → ((at : ℕ) → r ≡ Err (Cut at) → ⊥) → overBy (workedEntry (one r)) ≡ false
+goes-on : (r : Result Content ReadFault) → ((at : ℕ) → r ≡ Err (Cut at) → ⊥) → overBy (readEntry (one r)) ≡ false
 goes-on (Ok c) h = refl
 goes-on (Err (Cut at)) h = absurd (h at refl)
 goes-on (Err (UnknownKind at)) h = refl
 goes-on (Err (Forbidden at)) h = refl
 
-told-some : (p : ℕ) (r : Result Content ReadFault) → toldEntry p (workedEntry (one r)) ≡ None → ⊥
+-- something is said of every record
+told-some : (p : ℕ) (r : Result Content ReadFault) → toldEntry p (readEntry (one r)) ≡ None → ⊥
 told-some p (Ok c) e = let z : _≡_ {A = ℕ} 0 1 = cc in omega arith
 told-some p (Err f) e = let z : _≡_ {A = ℕ} 0 1 = cc in omega arith
-
--- k lines are printed: the next record is the k-th, or the run is over
-abbrev pub Running : List ℕ → Bool → ℕ → ℕ → Type 0
-Running s over p k = ((over ≡ false) × (p ≡ 24 * k) × (24 * k ≤ length s)) ⊎ ((over ≡ true) × (k ≡ records s))
-
--- what is left of the run
-abbrev pub left : List ℕ → Bool → ℕ → ℕ
-left s over p = length s - p + cond over 0 1
-
--- after one more line
-pub record Onward (s : List ℕ) (over : Bool) (p k : ℕ) (e : Entry) : Type 0 where
-  pub running : Running s (nextOver over s p) (nextPlace over s p) (k + 1)
-  pub less : left s (nextOver over s p) (nextPlace over s p) < left s over p
-  pub entry : entryAt s (24 * k) ≡ Some e
 
 none-some : {X : Type 0} (o : Option X) (x : X) → o ≡ None → o ≡ Some x → ⊥
 none-some o x p q = let z : _≡_ {A = ℕ} 0 1 = cc in omega arith
 
+-- k lines are printed: the next record is the k-th, or the run is over
+abbrev pub Running : Run → ℕ → Type 0
+Running r k = ((r .over ≡ false) × (r .place ≡ 24 * k) × (24 * k ≤ length (r .input))) ⊎ ((r .over ≡ true) × (k ≡ records (r .input)))
+
+-- what is left of a run
+abbrev pub left : Run → ℕ
+left r = length (r .input) - r .place + cond (r .over) 0 1
+
+-- after one more line
+pub record Onward (r : Run) (k : ℕ) (e : Entry) : Type 0 where
+  pub running : Running (nextRun r) (k + 1)
+  pub less : left (nextRun r) < left r
+  pub entry : entryAt (r .input) (24 * k) ≡ Some e
+
 -- while the run is not over
-module _ (s : List ℕ) (over : Bool) (p k : ℕ) (going : over ≡ false) (place : p ≡ 24 * k) (within : 24 * k ≤ length s) where
-  abbrev told : Result (Option Content) ReadFault → Option Entry
-  told r = toldEntry p (workedEntry r)
+module _ (r : Run) (k : ℕ) (going : r .over ≡ false) (place : r .place ≡ 24 * k) (within : 24 * k ≤ length (r .input)) where
+  entry-is : nextEntry r ≡ entryAt (r .input) (r .place)
+  entry-is = cond-false (r .over) None (entryAt (r .input) (r .place)) going
 
-  entry-is : nextEntry over s p ≡ entryAt s p
-  entry-is = cond-false over None (entryAt s p) going
+  entry-by : (o : Option Entry) → entryAt (r .input) (r .place) ≡ o → nextEntry r ≡ o
+  entry-by o e = entry-is ∙ e
 
-  onward-by : (e : Entry) → nextEntry over s p ≡ Some e → (v : Bool) (q : ℕ) → overBy (worked s p) ≡ v → placeAfter s p ≡ q → Running s v q (k + 1) → left s v q < left s false p → Onward s over p k e
+  -- from the parts of the run afterwards
+  onward-by : (e : Entry) → nextEntry r ≡ Some e → (v : Bool) (q : ℕ) → overBy (stepAt (r .input) (r .place)) ≡ v → placeAfter (r .input) (r .place) ≡ q → Running (record { input = r .input; place = q; over = v }) (k + 1) → length (r .input) - q + cond v 0 1 < length (r .input) - r .place + 1 → Onward r k e
   onward-by e h v q ev eq run less =
-      let ov = cond-false over true (overBy (worked s p)) going ∙ ev in
-      let pl = cond-false over p (placeAfter s p) going ∙ eq in
-      record {
-        running = subst (λ o. Running s o (nextPlace over s p) (k + 1)) (sym ov) (subst (λ n. Running s v n (k + 1)) (sym pl) run);
-        less = subst (λ o. left s o (nextPlace over s p) < left s over p) (sym ov) (subst (λ n. left s v n < left s over p) (sym pl) (subst (λ o. left s v q < left s o p) (sym going) less));
-        entry = ap (entryAt s) (sym place) ∙ sym entry-is ∙ h;
-      }
+      let after : nextRun r ≡ record { input = r .input; place = q; over = v } =
+          λ i. record { input = r .input; place = (cond-false (r .over) (r .place) (placeAfter (r .input) (r .place)) going ∙ eq) i; over = (cond-false (r .over) true (overBy (stepAt (r .input) (r .place))) going ∙ ev) i } in
+      let now : left r ≡ length (r .input) - r .place + 1 = ap (λ o. length (r .input) - r .place + cond o 0 1) going in
+      record { running = subst (λ x. Running x (k + 1)) (sym after) run; less = omega (arith, less, ap left after, now); entry = ap (entryAt (r .input)) (sym place) ∙ sym entry-is ∙ h }
 
-  onward-open : (e : Entry) → nextEntry over s p ≡ Some e → Onward s over p k e
-  onward-open e h =
-      ⊎-elim
-      (λ (a : p < length s).
-      ⊎-elim
-      (λ (b : length s < p + 24).
-      onward-by e h true p (ap (λ r. overBy (workedEntry r)) (read-cut s p a b)) (stays s p b (omega arith))
-      (inr (refl, omega arith)) (omega arith))
-      (λ (b : p + 24 ≤ length s).
-      onward-by e h false (p + 24) (ap (λ r. overBy (workedEntry r)) (read-whole s p b) ∙ goes-on (parsed p (part p 24 s)) (not-cut p (part p 24 s))) (moves-on s p b)
-      (inl (refl, omega arith, omega arith)) (omega arith))
-      (cases-lt (length s) (p + 24)))
-      (λ (a : length s ≤ p). absurd (none-some (nextEntry over s p) e (entry-is ∙ ap told (read-end s p a)) h))
-      (cases-lt p (length s))
+  onward-going : (e : Entry) → nextEntry r ≡ Some e → Remains (r .input) (r .place) → Onward r k e
+  onward-going e h (none a) = absurd (none-some (nextEntry r) e (entry-by None (ap (λ x. toldEntry (r .place) (readEntry x)) (read-end (r .input) (r .place) a))) h)
+  onward-going e h (cut a b) = onward-by e h true (r .place) (ap (λ x. overBy (readEntry x)) (read-cut (r .input) (r .place) a b)) (stays (r .input) (r .place) b (omega arith)) (inr (refl, omega arith)) (omega arith)
+  onward-going e h (whole b) =
+      let bytes = part (r .place) 24 (r .input) in
+      onward-by e h false (r .place + 24) (ap (λ x. overBy (readEntry x)) (read-whole (r .input) (r .place) b) ∙ goes-on (parsed (r .place) bytes) (not-cut (r .place) bytes)) (moves-on (r .input) (r .place) b) (inl (refl, omega arith, omega arith)) (omega arith)
 
-  finished-open : nextEntry over s p ≡ None → k ≡ records s
-  finished-open h =
-      let none : toldEntry p (worked s p) ≡ None = sym entry-is ∙ h in
-      ⊎-elim
-      (λ (a : p < length s).
-      ⊎-elim
-      (λ (b : length s < p + 24). absurd (none-some (toldEntry p (worked s p)) (refused p (Read (Cut p))) none (ap told (read-cut s p a b))))
-      (λ (b : p + 24 ≤ length s). absurd (told-some p (parsed p (part p 24 s)) (sym (ap told (read-whole s p b)) ∙ none)))
-      (cases-lt (length s) (p + 24)))
-      (λ (a : length s ≤ p). omega arith)
-      (cases-lt p (length s))
+  finished-going : nextEntry r ≡ None → Remains (r .input) (r .place) → k ≡ records (r .input)
+  finished-going h (none a) = omega arith
+  finished-going h (cut a b) = absurd (none-some (nextEntry r) (refused (r .place) (Read (Cut (r .place)))) h (entry-by _ (ap (λ x. toldEntry (r .place) (readEntry x)) (read-cut (r .input) (r .place) a b))))
+  finished-going h (whole b) = absurd (told-some (r .place) (parsed (r .place) (part (r .place) 24 (r .input))) (sym (entry-by _ (ap (λ x. toldEntry (r .place) (readEntry x)) (read-whole (r .input) (r .place) b))) ∙ h))
 
-pub onward : (s : List ℕ) (over : Bool) (p k : ℕ) (e : Entry) → Running s over p k → nextEntry over s p ≡ Some e → Onward s over p k e
-onward s over p k e (inl r) h = onward-open s over p k (r .0) (r .1) (r .2) e h
-onward s over p k e (inr r) h = absurd (none-some (nextEntry over s p) e (cond-true over None (entryAt s p) (r .0)) h)
+pub onward : (r : Run) (k : ℕ) (e : Entry) → Running r k → nextEntry r ≡ Some e → Onward r k e
+onward r k e (inl g) h = onward-going r k (g .0) (g .1) (g .2) e h (remains (r .input) (r .place))
+onward r k e (inr g) h = absurd (none-some (nextEntry r) e (cond-true (r .over) None (entryAt (r .input) (r .place)) (g .0)) h)
 
-pub finished : (s : List ℕ) (over : Bool) (p k : ℕ) → Running s over p k → nextEntry over s p ≡ None → k ≡ records s
-finished s over p k (inl r) h = finished-open s over p k (r .0) (r .1) (r .2) h
-finished s over p k (inr r) h = r .1
+pub finished : (r : Run) (k : ℕ) → Running r k → nextEntry r ≡ None → k ≡ records (r .input)
+finished r k (inl g) h = finished-going r k (g .0) (g .1) (g .2) h (remains (r .input) (r .place))
+finished r k (inr g) h = g .1
 
-pub starts : (s : List ℕ) → Running s false 0 0
+pub starts : (s : List ℕ) → Running (startOf s) 0
 starts s = inl (refl, refl, omega arith)
 
 -- the text of the first k lines, and of one more
 abbrev pub front : List ℕ → ℕ → List ℕ
 front s k = joined (λ n. lineText (entryAt s (24 * n))) (counting 0 k)
 
-pub front-more : (s : List ℕ) (k : ℕ) → front s (k + 1) ≡ front s k ++ lineText (entryAt s (24 * k))
-front-more s k =
-    let f = λ (n : ℕ). lineText (entryAt s (24 * n)) in
-    let more : counting 0 (k + 1) ≡ counting 0 k ++ (k ∷ []) =
-    sym (map-id (counting 0 (k + 1))) ∙ map-counting-more (λ n. n) 0 k k (omega arith) ∙ ap (λ (l : List ℕ). l ++ (k ∷ [])) (map-id (counting 0 k)) in
-    ap (joined f) more ∙ sym (joined-more f [] (counting 0 k) k)
+counting-more : (k : ℕ) → counting 0 (k + 1) ≡ counting 0 k ++ (k ∷ [])
+counting-more k = sym (map-id (counting 0 (k + 1))) ∙ map-counting-more (λ n. n) 0 k k (omega arith) ∙ ap (λ (l : List ℕ). l ++ (k ∷ [])) (map-id (counting 0 k))
 
--- the state that a call left, by what it says of each part
-pub running-is : (s : List ℕ) (o v : Bool) (p q k : ℕ) → o ≡ v → p ≡ q → Running s v q k → Running s o p k
-running-is s o v p q k eo ep r = subst (λ n. Running s o n k) (sym ep) (subst (λ t. Running s t q k) (sym eo) r)
+pub front-more : (s : List ℕ) (k : ℕ) → front s (k + 1) ≡ front s k ++ lineText (entryAt s (24 * k))
+front-more s k = let f = λ (n : ℕ). lineText (entryAt s (24 * n)) in ap (joined f) (counting-more k) ∙ sym (joined-more f [] (counting 0 k) k)

@@ -1,5 +1,5 @@
 -- What the transcript says of each record.
-use mathlib.Core.Bool.{Bool, true, false, cond}
+use mathlib.Core.Bool.{Bool, false}
 use mathlib.Core.List.{List}
 use Prim.Native.Nat.{ℕ}
 use lib.Chars.{codes}
@@ -11,7 +11,7 @@ use Rattle.std.specs.declared.result.Result.the-variants.{Ok, Err}
 use Rattle.record.specs.declared.fault.ReadFault.{ReadFault}
 use Rattle.record.specs.Content.{Content, offer, strike, tick}
 use Rattle.record.specs.Label.{shownLabel}
-use Rattle.record.specs.Reading.{readAt, placeAfter}
+use Rattle.record.specs.Reading.{readAt}
 use Rattle.transcript.specs.declared.fault.BenchFault.{BenchFault}
 use Rattle.transcript.specs.declared.fault.BenchFault.the-variants.{Read}
 use Rattle.transcript.specs.declared.line.Line.{Line}
@@ -38,14 +38,14 @@ contentEntry (strike t) = struck t
 contentEntry tick = ticked
 
 -- the entry of a record that was read; none at the end of the input
-abbrev pub workedEntry : Result (Option Content) ReadFault → Result (Option Entry) BenchFault
-workedEntry (Ok None) = Ok None
-workedEntry (Ok (Some c)) = Ok (Some (contentEntry c))
-workedEntry (Err e) = Err (Read e)
+abbrev pub readEntry : Result (Option Content) ReadFault → Result (Option Entry) BenchFault
+readEntry (Ok None) = Ok None
+readEntry (Ok (Some c)) = Ok (Some (contentEntry c))
+readEntry (Err e) = Err (Read e)
 
 -- what the bench makes of the record at a place of the input
-abbrev pub worked : List ℕ → ℕ → Result (Option Entry) BenchFault
-worked input place = workedEntry (readAt input place)
+abbrev pub stepAt : List ℕ → ℕ → Result (Option Entry) BenchFault
+stepAt input place = readEntry (readAt input place)
 
 -- a fault is an entry too, with the place of its record
 abbrev pub toldEntry : ℕ → Result (Option Entry) BenchFault → Option Entry
@@ -54,28 +54,18 @@ toldEntry place (Err f) = Some (refused place f)
 
 -- the entry of the record at a place of the input
 abbrev pub entryAt : List ℕ → ℕ → Option Entry
-entryAt input place = toldEntry place (worked input place)
+entryAt input place = toldEntry place (stepAt input place)
 
--- a fault of this kind ended the run
+-- whether the run ends with this
 abbrev pub overBy : Result (Option Entry) BenchFault → Bool
 overBy (Ok e) = false
 overBy (Err f) = endsRun f
 
--- one call: its answer, and the run's place and end afterwards
-abbrev pub nextEntry : Bool → List ℕ → ℕ → Option Entry
-nextEntry over input place = cond over None (entryAt input place)
-
-abbrev pub nextPlace : Bool → List ℕ → ℕ → ℕ
-nextPlace over input place = cond over place (placeAfter input place)
-
-abbrev pub nextOver : Bool → List ℕ → ℕ → Bool
-nextOver over input place = cond over true (overBy (worked input place))
-
 -- the code's answers as plain values
-abbrev pub workedBy : Result (Option Line) BenchFault → Result (Option Entry) BenchFault
-workedBy (Ok None) = Ok None
-workedBy (Ok (Some l)) = Ok (Some (entryOf l))
-workedBy (Err f) = Err f
+abbrev pub stepBy : Result (Option Line) BenchFault → Result (Option Entry) BenchFault
+stepBy (Ok None) = Ok None
+stepBy (Ok (Some l)) = Ok (Some (entryOf l))
+stepBy (Err f) = Err f
 
 abbrev pub entryBy : Option Line → Option Entry
 entryBy None = None

@@ -1,3 +1,4 @@
 pub mod Refusals
 pub mod Entries
 pub mod Text
+pub mod Run

@@ -1,8 +1,8 @@
 // The bench works the records of a file one by one.
 ghost use mathlib.Core.Path.{_≡_};
-ghost use mathlib.Core.Bool.{false};
 ghost use Rattle.std.specs.Text.{Ascii};
-ghost use Rattle.transcript.specs.Entries.{entryBy, workedBy, worked, nextEntry, nextPlace, nextOver};
+ghost use Rattle.transcript.specs.Entries.{entryBy, stepBy, stepAt};
+ghost use Rattle.transcript.specs.Run.{runOf, startOf, nextEntry, nextRun};
 ghost use Rattle.record.specs.Reading.{placeAfter};
 use super::fault::BenchFault;
 use super::fault::BenchFromRead;
@@ -37,7 +37,7 @@ pub struct Bench<'a> {
 impl<'a> Bench<'a> {
     /// A bench at the start of the input.
     pub fn new(input: &'a [u8]) -> Bench<'a>
-        ensures { λ r. ⌜ now (r .reader .input) ≡ now (input .entry) ⌝ ∗ ⌜ r .reader .place ≡ 0 ⌝ ∗ ⌜ r .over ≡ false ⌝ }
+        ensures { λ r. ⌜ runOf r ≡ startOf (now (input .entry)) ⌝ }
     {
         Bench {
             reader: Reader::new(input),
@@ -46,8 +46,8 @@ impl<'a> Bench<'a> {
     }
 
     // Reads the next record, and says what it is.
-    fn work(&mut self) -> Result<Option<Line<'a>>, BenchFault>
-        ensures said { λ r. ⌜ workedBy r ≡ worked (now (now (self .entry) .reader .input)) (now (self .entry) .reader .place) ⌝ }
+    fn step(&mut self) -> Result<Option<Line<'a>>, BenchFault>
+        ensures said { λ r. ⌜ stepBy r ≡ stepAt (now (now (self .entry) .reader .input)) (now (self .entry) .reader .place) ⌝ }
         ensures place { λ _. ⌜ now (self .exit) .reader .place ≡ placeAfter (now (now (self .entry) .reader .input)) (now (self .entry) .reader .place) ⌝ }
         ensures input { λ _. ⌜ now (now (self .exit) .reader .input) ≡ now (now (self .entry) .reader .input) ⌝ }
         ensures over { λ _. ⌜ now (self .exit) .over ≡ now (self .entry) .over ⌝ }
@@ -81,16 +81,14 @@ impl<'a> Bench<'a> {
 
     /// The line of the next record. There is none after the last record, nor after a cut one.
     pub fn next_line(&mut self) -> Option<Line<'a>>
-        ensures said { λ r. ⌜ entryBy r ≡ nextEntry (now (self .entry) .over) (now (now (self .entry) .reader .input)) (now (self .entry) .reader .place) ⌝ }
-        ensures place { λ _. ⌜ now (self .exit) .reader .place ≡ nextPlace (now (self .entry) .over) (now (now (self .entry) .reader .input)) (now (self .entry) .reader .place) ⌝ }
-        ensures over { λ _. ⌜ now (self .exit) .over ≡ nextOver (now (self .entry) .over) (now (now (self .entry) .reader .input)) (now (self .entry) .reader .place) ⌝ }
-        ensures input { λ _. ⌜ now (now (self .exit) .reader .input) ≡ now (now (self .entry) .reader .input) ⌝ }
+        ensures said { λ r. ⌜ entryBy r ≡ nextEntry (runOf (now (self .entry))) ⌝ }
+        ensures after { λ _. ⌜ runOf (now (self .exit)) ≡ nextRun (runOf (now (self .entry))) ⌝ }
     {
         if self.over {
             return None;
         }
         let place = self.reader.place();
-        match self.work() {
+        match self.step() {
             Ok(line) => line,
             Err(fault) => {
                 self.over = fault.ends_run();

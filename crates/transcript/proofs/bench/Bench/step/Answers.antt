@@ -11,7 +11,7 @@ use Rattle.record.specs.declared.content.Record.{Record}
 use Rattle.record.specs.Content.{contentOf}
 use Rattle.record.specs.Reading.{readBy}
 use Rattle.record.proofs.LabelText.{ascii-read, ascii-shown}
-use Rattle.transcript.proofs.bench.Bench.work.Needs as need
+use Rattle.transcript.proofs.bench.Bench.step.Needs as need
 
 pub text-label-requires : need.text-label-requires
 text-label-requires c κs =
