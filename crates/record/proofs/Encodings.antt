@@ -4,10 +4,10 @@ use mathlib.Core.List.{List, _∷_, _++_, append-nil}
 use Prim.Native.Nat.{ℕ}
 use lib.ListN.{set, replicate}
 use borrow.Rule.Slice.PartMut.{putMid}
-use Rattle.record.specs.declared.layout.Kind.{Kind}
-use Rattle.record.specs.BigEndian.{bytes}
-use Rattle.record.specs.Layout.{kindByte}
-use Rattle.record.specs.Writing.{laidOut}
+use Rattle.layout.specs.declared.kind.Kind.{Kind}
+use Rattle.layout.specs.BigEndian.{bytes}
+use Rattle.layout.specs.Layout.{kindByte}
+use Rattle.layout.specs.Writing.{laidOut}
 
 -- fields that are put into 24 zeros, one after the other
 abbrev filled : ℕ → List ℕ → List ℕ → List ℕ → List ℕ → List ℕ → List ℕ

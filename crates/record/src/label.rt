@@ -1,7 +1,7 @@
 // The label of an offer.
 ghost use mathlib.Core.Path.{_≡_};
-ghost use Rattle.record.specs.Label.{trimmedLength, trimmed, shownLabel, isLabel};
-use super::layout::is_printable;
+ghost use Rattle.layout.specs.Label.{trimmedLength, trimmed, shownLabel, isLabel};
+use layout::is_printable;
 
 // A label has six bytes.
 const LABEL_LEN: usize = 6;

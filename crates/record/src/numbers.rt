@@ -1,7 +1,7 @@
 // The numbers in a record, the high byte first.
 ghost use mathlib.Core.Path.{_≡_};
 ghost use lib.ListN.{length};
-ghost use Rattle.record.specs.BigEndian.{number};
+ghost use Rattle.layout.specs.BigEndian.{number};
 
 // The number in two bytes.
 pub(super) fn read_u16(bytes: &[u8]) -> u16

@@ -3,22 +3,22 @@ ghost use mathlib.Core.Path.{_≡_};
 ghost use Prim.Native.Nat.{_+_, _<_, _≤_, _^_};
 ghost use lib.ListN.{length};
 ghost use denote.Ref.{now as behind};
-ghost use Rattle.record.specs.Content.{contentOf};
-ghost use Rattle.record.specs.Reading.{content, parsed, parsedBy, one, readAt, readBy, placeAfter};
-ghost use Rattle.record.specs.RoundTrip.{OnlyForm};
-ghost use Rattle.record.specs.BigEndian.{part};
-use super::content::Record;
-use super::fault::ReadFault;
+ghost use Rattle.layout.specs.Content.{contentOf};
+ghost use Rattle.layout.specs.Reading.{content, parsed, parsedBy, one, readAt, readBy, placeAfter};
+ghost use Rattle.layout.specs.RoundTrip.{OnlyForm};
+ghost use Rattle.layout.specs.BigEndian.{part};
 use super::label::trim;
-use super::layout::ARRIVAL;
-use super::layout::DEADLINE;
-use super::layout::Kind;
-use super::layout::LABEL;
-use super::layout::RECORD_LEN;
-use super::layout::TICKET;
-use super::layout::WORK;
 use super::numbers::read_u16;
 use super::numbers::read_u48;
+use layout::ARRIVAL;
+use layout::DEADLINE;
+use layout::Kind;
+use layout::LABEL;
+use layout::RECORD_LEN;
+use layout::ReadFault;
+use layout::Record;
+use layout::TICKET;
+use layout::WORK;
 
 // What the 24 bytes of an allowed record say.
 fn content_of<'a>(kind: Kind, bytes: &'a [u8]) -> Record<'a>

@@ -3,20 +3,20 @@ ghost use mathlib.Core.Path.{_≡_};
 ghost use lib.ListN.{length, take};
 ghost use mathlib.Core.Bool.{true};
 ghost use Rattle.std.specs.Results.{isOk};
-ghost use Rattle.record.specs.Content.{contentOf};
-ghost use Rattle.record.specs.Writing.{laidOut, encoded, encodedBy, checked, checkedOffer, writeOf, writtenInto};
-ghost use Rattle.record.specs.RoundTrip.{Sized, bare, ReadsAs};
-use super::content::Record;
-use super::fault::WriteFault;
-use super::fault::WrittenField;
+ghost use Rattle.layout.specs.Content.{contentOf};
+ghost use Rattle.layout.specs.Writing.{laidOut, encoded, encodedBy, checked, checkedOffer, writeOf, writtenInto};
+ghost use Rattle.layout.specs.RoundTrip.{Sized, bare, ReadsAs};
 use super::label::is_label;
-use super::layout::ARRIVAL;
-use super::layout::DEADLINE;
-use super::layout::Kind;
-use super::layout::LABEL;
-use super::layout::RECORD_LEN;
-use super::layout::TICKET;
-use super::layout::WORK;
+use layout::ARRIVAL;
+use layout::DEADLINE;
+use layout::Kind;
+use layout::LABEL;
+use layout::RECORD_LEN;
+use layout::Record;
+use layout::TICKET;
+use layout::WORK;
+use layout::WriteFault;
+use layout::WrittenField;
 
 // The greatest number that fits six bytes.
 const MAX_TICK: u64 = 0xffff_ffff_ffff;
@@ -62,42 +62,46 @@ fn lay_out(
     bytes
 }
 
-impl Record<'_> {
-    // The bytes of the record, where its fields fit them.
-    fn encode(&self) -> Result<[u8; RECORD_LEN], WriteFault>
-        ensures said { λ r. ⌜ r ≡ encodedBy (checked (contentOf (now (self .entry)))) (encoded (contentOf (now (self .entry)))) ⌝ }
-        ensures sized { λ _. ⌜ Sized (contentOf (now (self .entry))) ⌝ }
-    {
-        match *self {
-            Record::Offer {
-                ticket,
-                arrival,
-                deadline,
-                work,
-                label,
-            } => {
-                check_offer(arrival, deadline, label)?;
-                Ok(lay_out(Kind::Offer, ticket, arrival, deadline, work, label))
-            }
-            Record::Strike { ticket } => Ok(lay_out(Kind::Strike, ticket, 0, 0, 0, BLANK)),
-            Record::Tick => Ok(lay_out(Kind::Tick, 0, 0, 0, 0, BLANK)),
+// The bytes of the record, where its fields fit them.
+fn encode(entry: &Record) -> Result<[u8; RECORD_LEN], WriteFault>
+    ensures said { λ r. ⌜ r ≡ encodedBy (checked (contentOf (now (entry .entry)))) (encoded (contentOf (now (entry .entry)))) ⌝ }
+    ensures sized { λ _. ⌜ Sized (contentOf (now (entry .entry))) ⌝ }
+{
+    match *entry {
+        Record::Offer {
+            ticket,
+            arrival,
+            deadline,
+            work,
+            label,
+        } => {
+            check_offer(arrival, deadline, label)?;
+            Ok(lay_out(Kind::Offer, ticket, arrival, deadline, work, label))
         }
+        Record::Strike { ticket } => Ok(lay_out(Kind::Strike, ticket, 0, 0, 0, BLANK)),
+        Record::Tick => Ok(lay_out(Kind::Tick, 0, 0, 0, 0, BLANK)),
     }
+}
 
-    /// Writes the record into the first 24 places of the list, and leaves the rest of it.
-    ///
-    /// Refuses an offer whose arrival, deadline or label does not fit, in this order, and then a list of fewer than 24
-    /// places; a refused call changes nothing. The bytes read back as this record, but for the last spaces of its label.
-    pub fn write_to(&self, out: &mut [u8]) -> Result<(), WriteFault>
-        ensures said { λ r. ⌜ r ≡ writeOf (contentOf (now (self .entry))) (now (out .entry)) ⌝ }
-        ensures written { λ _. ⌜ now (out .exit) ≡ writtenInto (contentOf (now (self .entry))) (now (out .entry)) ⌝ }
-        ensures back { λ r. ⌜ (isOk r ≡ true → ReadsAs (take 24 (now (out .exit))) (bare (contentOf (now (self .entry))))) ⌝ }
-    {
-        let bytes = self.encode()?;
-        if out.len() < RECORD_LEN {
-            return Err(WriteFault::Short { needed: RECORD_LEN });
-        }
-        out[0..RECORD_LEN].copy_from_slice(&bytes);
-        Ok(())
+/// Writes the record into the first 24 places of the list, and leaves the rest of it.
+///
+/// Refuses an offer whose arrival, deadline or label does not fit, in this order, and then a list of fewer than 24
+/// places; a refused call changes nothing. The bytes read back as the record, but for the last spaces of its label:
+///
+/// ```text
+/// let mut bytes = [0; 24];
+/// write(&Record::Strike { ticket: 7 }, &mut bytes)?;
+/// Reader::new(&bytes).next()   // Ok(Some(Record::Strike { ticket: 7 }))
+/// ```
+pub fn write(entry: &Record, out: &mut [u8]) -> Result<(), WriteFault>
+    ensures said { λ r. ⌜ r ≡ writeOf (contentOf (now (entry .entry))) (now (out .entry)) ⌝ }
+    ensures written { λ _. ⌜ now (out .exit) ≡ writtenInto (contentOf (now (entry .entry))) (now (out .entry)) ⌝ }
+    ensures back { λ r. ⌜ (isOk r ≡ true → ReadsAs (take 24 (now (out .exit))) (bare (contentOf (now (entry .entry))))) ⌝ }
+{
+    let bytes = encode(entry)?;
+    if out.len() < RECORD_LEN {
+        return Err(WriteFault::Short { needed: RECORD_LEN });
     }
+    out[0..RECORD_LEN].copy_from_slice(&bytes);
+    Ok(())
 }

@@ -1,15 +1,21 @@
 use super::samples::OFFER;
 use super::samples::STRIKE;
 use super::samples::TICK;
-use record::ReadFault;
+use layout::ReadFault;
+use layout::ReadFaultDebug;
+use layout::ReadFaultPartialEq;
+use layout::Record;
+use layout::RecordDebug;
+use layout::RecordPartialEq;
 use record::Reader;
-use record::Record;
 use record::shown;
 use std::test::*;
 
 // What may stand at each place: k the kind, z zero, n any byte of a number, p a byte of a label, s a space.
 const OFFER_PLACES: &[u8; 24] = b"kznnnnnnnnnnnnnnnnpppppp";
+
 const STRIKE_PLACES: &[u8; 24] = b"kznnzzzzzzzzzzzzzzssssss";
+
 const TICK_PLACES: &[u8; 24] = b"kzzzzzzzzzzzzzzzzzssssss";
 
 // The edges of each of these.
@@ -75,7 +81,10 @@ fn each_kind_is_read() -> Result<(), Fail> {
         label: b"fader",
     };
     check_eq(Reader::new(&OFFER).next(), Ok(Some(offer)))?;
-    check_eq(Reader::new(&STRIKE).next(), Ok(Some(Record::Strike { ticket: 0x0102 })))?;
+    check_eq(
+        Reader::new(&STRIKE).next(),
+        Ok(Some(Record::Strike { ticket: 0x0102 })),
+    )?;
     check_eq(Reader::new(&TICK).next(), Ok(Some(Record::Tick)))
 }
 

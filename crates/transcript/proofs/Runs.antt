@@ -15,12 +15,12 @@ use Rattle.std.specs.shelf.Lists.{joined}
 use Rattle.std.proofs.shelf.Counted.{map-counting-more}
 use Rattle.std.proofs.shelf.Lists.{joined-more, map-id}
 use Rattle.std.proofs.shelf.Tests.{cond-true, cond-false, cases-lt}
-use Rattle.record.specs.declared.fault.ReadFault.{ReadFault}
-use Rattle.record.specs.declared.fault.ReadFault.the-variants.{Cut, UnknownKind, Forbidden}
-use Rattle.record.specs.BigEndian.{part}
-use Rattle.record.specs.Content.{Content}
-use Rattle.record.specs.Reading.{parsed, one, readAt, placeAfter}
-use Rattle.record.proofs.Readings.{read-end, read-cut, read-whole, not-cut, stays, moves-on}
+use Rattle.layout.specs.declared.fault.ReadFault.{ReadFault}
+use Rattle.layout.specs.declared.fault.ReadFault.the-variants.{Cut, UnknownKind, Forbidden}
+use Rattle.layout.specs.BigEndian.{part}
+use Rattle.layout.specs.Content.{Content}
+use Rattle.layout.specs.Reading.{parsed, one, readAt, placeAfter}
+use Rattle.layout.proofs.Readings.{read-end, read-cut, read-whole, not-cut, stays, moves-on}
 use Rattle.transcript.specs.declared.fault.BenchFault.the-variants.{Read}
 use Rattle.transcript.specs.Entries.{Entry, refused, readEntry, stepAt, toldEntry, entryAt, overBy}
 use Rattle.transcript.specs.Run.{Run, startOf, nextEntry, nextRun}
@@ -65,7 +65,6 @@ left r = length (r .input) - r .place + cond (r .over) 0 1
 -- after one more line
 pub record Onward (r : Run) (k : ℕ) (e : Entry) : Type 0 where
   pub running : Running (nextRun r) (k + 1)
-  pub less : left (nextRun r) < left r
   pub entry : entryAt (r .input) (24 * k) ≡ Some e
 
 -- while the run is not over
@@ -77,19 +76,18 @@ module _ (r : Run) (k : ℕ) (going : r .over ≡ false) (place : r .place ≡ 2
   entry-by o e = entry-is ∙ e
 
   -- from the parts of the run afterwards
-  onward-by : (e : Entry) → nextEntry r ≡ Some e → (v : Bool) (q : ℕ) → overBy (stepAt (r .input) (r .place)) ≡ v → placeAfter (r .input) (r .place) ≡ q → Running (record { input = r .input; place = q; over = v }) (k + 1) → length (r .input) - q + cond v 0 1 < length (r .input) - r .place + 1 → Onward r k e
-  onward-by e h v q ev eq run less =
+  onward-by : (e : Entry) → nextEntry r ≡ Some e → (v : Bool) (q : ℕ) → overBy (stepAt (r .input) (r .place)) ≡ v → placeAfter (r .input) (r .place) ≡ q → Running (record { input = r .input; place = q; over = v }) (k + 1) → Onward r k e
+  onward-by e h v q ev eq run =
       let after : nextRun r ≡ record { input = r .input; place = q; over = v } =
-          λ i. record { input = r .input; place = (cond-false (r .over) (r .place) (placeAfter (r .input) (r .place)) going ∙ eq) i; over = (cond-false (r .over) true (overBy (stepAt (r .input) (r .place))) going ∙ ev) i } in
-      let now : left r ≡ length (r .input) - r .place + 1 = ap (λ o. length (r .input) - r .place + cond o 0 1) going in
-      record { running = subst (λ x. Running x (k + 1)) (sym after) run; less = omega (arith, less, ap left after, now); entry = ap (entryAt (r .input)) (sym place) ∙ sym entry-is ∙ h }
+      λ i. record { input = r .input; place = (cond-false (r .over) (r .place) (placeAfter (r .input) (r .place)) going ∙ eq) i; over = (cond-false (r .over) true (overBy (stepAt (r .input) (r .place))) going ∙ ev) i } in
+      record { running = subst (λ x. Running x (k + 1)) (sym after) run; entry = ap (entryAt (r .input)) (sym place) ∙ sym entry-is ∙ h }
 
   onward-going : (e : Entry) → nextEntry r ≡ Some e → Remains (r .input) (r .place) → Onward r k e
   onward-going e h (none a) = absurd (none-some (nextEntry r) e (entry-by None (ap (λ x. toldEntry (r .place) (readEntry x)) (read-end (r .input) (r .place) a))) h)
-  onward-going e h (cut a b) = onward-by e h true (r .place) (ap (λ x. overBy (readEntry x)) (read-cut (r .input) (r .place) a b)) (stays (r .input) (r .place) b (omega arith)) (inr (refl, omega arith)) (omega arith)
+  onward-going e h (cut a b) = onward-by e h true (r .place) (ap (λ x. overBy (readEntry x)) (read-cut (r .input) (r .place) a b)) (stays (r .input) (r .place) b (omega arith)) (inr (refl, omega arith))
   onward-going e h (whole b) =
       let bytes = part (r .place) 24 (r .input) in
-      onward-by e h false (r .place + 24) (ap (λ x. overBy (readEntry x)) (read-whole (r .input) (r .place) b) ∙ goes-on (parsed (r .place) bytes) (not-cut (r .place) bytes)) (moves-on (r .input) (r .place) b) (inl (refl, omega arith, omega arith)) (omega arith)
+      onward-by e h false (r .place + 24) (ap (λ x. overBy (readEntry x)) (read-whole (r .input) (r .place) b) ∙ goes-on (parsed (r .place) bytes) (not-cut (r .place) bytes)) (moves-on (r .input) (r .place) b) (inl (refl, omega arith, omega arith))
 
   finished-going : nextEntry r ≡ None → Remains (r .input) (r .place) → k ≡ records (r .input)
   finished-going h (none a) = omega arith

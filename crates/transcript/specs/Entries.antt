@@ -8,10 +8,10 @@ use Rattle.std.specs.declared.option.Option.{Option}
 use Rattle.std.specs.declared.option.Option.the-variants.{Some, None}
 use Rattle.std.specs.declared.result.Result.{Result}
 use Rattle.std.specs.declared.result.Result.the-variants.{Ok, Err}
-use Rattle.record.specs.declared.fault.ReadFault.{ReadFault}
-use Rattle.record.specs.Content.{Content, offer, strike, tick}
-use Rattle.record.specs.Label.{shownLabel}
-use Rattle.record.specs.Reading.{readAt}
+use Rattle.layout.specs.declared.fault.ReadFault.{ReadFault}
+use Rattle.layout.specs.Content.{Content, offer, strike, tick}
+use Rattle.layout.specs.Label.{shownLabel}
+use Rattle.layout.specs.Reading.{readAt}
 use Rattle.transcript.specs.declared.fault.BenchFault.{BenchFault}
 use Rattle.transcript.specs.declared.fault.BenchFault.the-variants.{Read}
 use Rattle.transcript.specs.declared.line.Line.{Line}

@@ -5,7 +5,7 @@ use Prim.Native.Nat.{ℕ}
 use denote.Ref.{now}
 use Rattle.std.specs.declared.option.Option.{Option}
 use Rattle.std.specs.declared.option.Option.the-variants.{None}
-use Rattle.record.specs.Reading.{placeAfter}
+use Rattle.layout.specs.Reading.{placeAfter}
 use Rattle.transcript.specs.declared.bench.Bench.{Bench}
 use Rattle.transcript.specs.Entries.{Entry, stepAt, entryAt, overBy}
 

@@ -3,12 +3,12 @@ ghost use mathlib.Core.Path.{_≡_};
 ghost use Rattle.std.specs.Text.{Ascii};
 ghost use Rattle.transcript.specs.Entries.{entryBy, stepBy, stepAt};
 ghost use Rattle.transcript.specs.Run.{runOf, startOf, nextEntry, nextRun};
-ghost use Rattle.record.specs.Reading.{placeAfter};
+ghost use Rattle.layout.specs.Reading.{placeAfter};
 use super::fault::BenchFault;
 use super::fault::BenchFromRead;
 use super::line::Line;
+use layout::Record;
 use record::Reader;
-use record::Record;
 use record::shown;
 use std::str::from_utf8;
 

@@ -2,10 +2,10 @@
 ghost use mathlib.Core.Path.{_≡_};
 ghost use Rattle.transcript.specs.declared.fault.BenchFault.the-variants.{Read};
 ghost use Rattle.transcript.specs.Refusals.{benchRefusal, endsRun};
-use record::ReadFault;
-use record::ReadFaultDebug;
-use record::ReadFaultPartialEq;
-use record::ReadRefusal;
+use layout::ReadFault;
+use layout::ReadFaultDebug;
+use layout::ReadFaultPartialEq;
+use layout::ReadRefusal;
 use refusal::Fault;
 use refusal::Refusal;
 

@@ -1,6 +1,6 @@
 use mathlib.Core.Path.{_≡_}
 use lib.ListN.{drop}
-use Rattle.record.specs.Label.{allPrintable}
+use Rattle.layout.specs.Label.{allPrintable}
 use Rattle.record.proofs.label.is_label.Given as given
 
 -- what is left to look at gives what the whole gives

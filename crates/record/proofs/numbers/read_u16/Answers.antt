@@ -1,7 +1,7 @@
 use mathlib.Core.Path.{ap}
 use native.Mathlib.Omega.{arith}
-use Rattle.record.specs.BigEndian.{number}
-use Rattle.record.proofs.BigEndian.{spelt-out}
+use Rattle.layout.specs.BigEndian.{number}
+use Rattle.layout.proofs.BigEndian.{spelt-out}
 use Rattle.record.proofs.numbers.read_u16.Needs as need
 
 pub returns : need.returns

@@ -2,9 +2,9 @@ use borrow.Author.Needs.{needs}
 use native.Mathlib.Omega.{arith}
 use lib.ListN.{drop}
 use Rattle.std.proofs.shelf.Lists.{length-drop}
-use Rattle.record.specs.Content.{contentOf}
-use Rattle.record.proofs.OneForm.{only-form}
-use Rattle.record.proofs.Layouts.{forbidden-within}
+use Rattle.layout.specs.Content.{contentOf}
+use Rattle.layout.proofs.OneForm.{only-form}
+use Rattle.layout.proofs.Layouts.{forbidden-within}
 use Rattle.record.proofs.reading.parse.Needs as need
 
 pub add-result : need.add-result

@@ -2,7 +2,7 @@ use mathlib.Core.Path.{ap, sym, _∙_}
 use mathlib.Core.List.{List}
 use Prim.Native.Nat.{ℕ}
 use lib.ListN.{take, drop}
-use Rattle.record.proofs.BigEndian.{bytes-six}
+use Rattle.layout.proofs.BigEndian.{bytes-six}
 use Rattle.record.proofs.Encodings.{filled-is}
 use Rattle.record.proofs.writing.lay_out.Needs as need
 

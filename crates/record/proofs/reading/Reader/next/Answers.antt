@@ -4,8 +4,8 @@ use Prim.Native.Nat.{_+_, _-_}
 use Rattle.std.specs.declared.option.Option.the-variants.{Some}
 use Rattle.std.specs.declared.result.Result.the-variants.{Ok, Err}
 use Rattle.std.proofs.shelf.Results.{err-from-errBy}
-use Rattle.record.specs.Content.{contentOf}
-use Rattle.record.proofs.Readings.{reads-part, only-part, moves-on}
+use Rattle.layout.specs.Content.{contentOf}
+use Rattle.layout.proofs.Readings.{reads-part, only-part, moves-on}
 use Rattle.record.proofs.reading.Reader.next.Needs as need
 
 pub returns-in-Break-record : need.returns-in-Break-record

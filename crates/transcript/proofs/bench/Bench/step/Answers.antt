@@ -7,10 +7,10 @@ use Rattle.std.specs.declared.option.Option.{Option}
 use Rattle.std.specs.declared.option.Option.the-variants.{Some}
 use Rattle.std.specs.declared.result.Result.the-variants.{Ok}
 use Rattle.std.proofs.shelf.Ascii.{ascii-from-all}
-use Rattle.record.specs.declared.content.Record.{Record}
-use Rattle.record.specs.Content.{contentOf}
-use Rattle.record.specs.Reading.{readBy}
-use Rattle.record.proofs.LabelText.{ascii-read, ascii-shown}
+use Rattle.layout.specs.declared.content.Record.{Record}
+use Rattle.layout.specs.Content.{contentOf}
+use Rattle.layout.specs.Reading.{readBy}
+use Rattle.layout.proofs.LabelText.{ascii-read, ascii-shown}
 use Rattle.transcript.proofs.bench.Bench.step.Needs as need
 
 pub text-label-requires : need.text-label-requires

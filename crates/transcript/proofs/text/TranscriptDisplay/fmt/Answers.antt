@@ -18,14 +18,19 @@ loop-line-again g c =
     let call = c .in-Some .ensures tt in
     let went = onward (runOf (c .loop-line .bench)) k e (inv .1 .1 .0) (sym (call .said)) in
     let line : entryAt s (24 * k) ≡ Some e = ap (λ (x : List ℕ). entryAt x (24 * k)) (sym (inv .0)) ∙ went .entry in
-    let text : front s k ++ lineText (Some e) ≡ front s (k + 1) = sym (front-more s k ∙ ap (λ o. front s k ++ lineText o) line) in
-    ( ap (λ (r : Run). r .input) (call .after) ∙ inv .0
-    , (k + 1
-    , ( subst (λ (r : Run). Running r (k + 1)) (sym (call .after)) (went .running)
-      , λ plain.
-          let before = inv .1 .1 .1 plain in
-          put-is (g .W·Write .took) (c .args .f .now) (front s k ++ lineText (Some e)) (front s (k + 1)) (c .writeln .last .self) text
-            (put-more (g .W·Write .took) (c .args .f .now) (front s k) (c .loop-line .f) (lineText (Some e)) (c .writeln .last .self) before (c .in-Continue-writeln .ensures tt .shows (before .plain) refl)) )))
+    let text : front s k ++ lineText (Some e) ≡ front s (k + 1) = sym (front-more s k ∙ ap (λ o. front s k ++ lineText o) line) in (
+      ap (λ (r : Run). r .input) (call .after) ∙ inv .0,
+      (
+        k + 1,
+        (
+          subst (λ (r : Run). Running r (k + 1)) (sym (call .after)) (went .running),
+          λ plain.
+              let before = inv .1 .1 .1 plain in
+              put-is (g .W·Write .took) (c .args .f .now) (front s k ++ lineText (Some e)) (front s (k + 1)) (c .writeln .last .self) text
+              (put-more (g .W·Write .took) (c .args .f .now) (front s k) (c .loop-line .f) (lineText (Some e)) (c .writeln .last .self) before (c .in-Continue-writeln .ensures tt .shows (before .plain) refl)),
+        ),
+      ),
+    )
 
 pub returns : need.returns
 returns g c plain ok =

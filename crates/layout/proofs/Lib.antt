@@ -1,0 +1,7 @@
+pub mod BigEndian
+pub mod LabelText
+pub mod Labels
+pub mod Layouts
+pub mod OneForm
+pub mod Readings
+pub mod WrittenReads
