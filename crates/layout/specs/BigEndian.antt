@@ -8,7 +8,7 @@ use Rattle.std.specs.shelf.Digits.{number as numberIn}
 abbrev pub number : List ℕ → ℕ
 number bs = numberIn 256 bs
 
--- the number in k bytes
+-- the k bytes of a number
 abbrev pub bytes : ℕ → ℕ → List ℕ
 bytes zero n = []
 bytes (suc k) n = bytes k (n / 256) ++ (n % 256 ∷ [])

@@ -33,7 +33,7 @@ Writable c = Sized c × (checked c ≡ Ok tt)
 abbrev pub ReadsAs : List ℕ → Content → Type 0
 ReadsAs b c = (before after : List ℕ) → readAt (before ++ (b ++ after)) (length before) ≡ Ok (Some c)
 
--- the bytes of an accepted record: some content is written so that reads back like this one, and each such is written so
+-- of what was read from the bytes b: the writer takes some content that reads back as the one read, and writes b for each that does
 abbrev pub OnlyForm : Result (Option Content) ReadFault → List ℕ → Type 0
 OnlyForm (Ok (Some c)) b = ((x : Content) × (Writable x × (bare x ≡ c))) × ((x : Content) → Writable x → bare x ≡ c → encoded x ≡ b)
 OnlyForm (Ok None) b = Unit {0}

@@ -5,7 +5,9 @@ use Prim.Native.Nat.{ℕ}
 use denote.Ref.{now}
 use Rattle.std.specs.declared.option.Option.{Option}
 use Rattle.std.specs.declared.option.Option.the-variants.{None}
+use Rattle.std.specs.declared.result.Result.{Result}
 use Rattle.layout.specs.Reading.{placeAfter}
+use Rattle.transcript.specs.declared.fault.BenchFault.{BenchFault}
 use Rattle.transcript.specs.declared.bench.Bench.{Bench}
 use Rattle.transcript.specs.Entries.{Entry, stepAt, entryAt, overBy}
 
@@ -22,6 +24,14 @@ runOf b = record { input = now (b .reader .input); place = b .reader .place; ove
 abbrev pub startOf : List ℕ → Run
 startOf s = record { input = s; place = 0; over = false }
 
+-- what the bench makes of the next record
+abbrev pub stepOf : Run → Result (Option Entry) BenchFault
+stepOf r = stepAt (r .input) (r .place)
+
+-- the run with that record passed
+abbrev pub passed : Run → Run
+passed r = record { input = r .input; place = placeAfter (r .input) (r .place); over = r .over }
+
 -- what is said of the next record
 abbrev pub nextEntry : Run → Option Entry
 nextEntry r = cond (r .over) None (entryAt (r .input) (r .place))
@@ -31,5 +41,5 @@ abbrev pub nextRun : Run → Run
 nextRun r = record {
   input = r .input;
   place = cond (r .over) (r .place) (placeAfter (r .input) (r .place));
-  over = cond (r .over) true (overBy (stepAt (r .input) (r .place)));
+  over = cond (r .over) true (overBy (stepOf r));
 }

@@ -1,9 +1,8 @@
 // The bench works the records of a file one by one.
 ghost use mathlib.Core.Path.{_≡_};
 ghost use Rattle.std.specs.Text.{Ascii};
-ghost use Rattle.transcript.specs.Entries.{entryBy, stepBy, stepAt};
-ghost use Rattle.transcript.specs.Run.{runOf, startOf, nextEntry, nextRun};
-ghost use Rattle.layout.specs.Reading.{placeAfter};
+ghost use Rattle.transcript.specs.Entries.{entryBy, stepBy};
+ghost use Rattle.transcript.specs.Run.{runOf, startOf, stepOf, passed, nextEntry, nextRun};
 use super::fault::BenchFault;
 use super::fault::BenchFromRead;
 use super::line::Line;
@@ -47,10 +46,8 @@ impl<'a> Bench<'a> {
 
     // Reads the next record, and says what it is.
     fn step(&mut self) -> Result<Option<Line<'a>>, BenchFault>
-        ensures said { λ r. ⌜ stepBy r ≡ stepAt (now (now (self .entry) .reader .input)) (now (self .entry) .reader .place) ⌝ }
-        ensures place { λ _. ⌜ now (self .exit) .reader .place ≡ placeAfter (now (now (self .entry) .reader .input)) (now (self .entry) .reader .place) ⌝ }
-        ensures input { λ _. ⌜ now (now (self .exit) .reader .input) ≡ now (now (self .entry) .reader .input) ⌝ }
-        ensures over { λ _. ⌜ now (self .exit) .over ≡ now (self .entry) .over ⌝ }
+        ensures said { λ r. ⌜ stepBy r ≡ stepOf (runOf (now (self .entry))) ⌝ }
+        ensures after { λ _. ⌜ runOf (now (self .exit)) ≡ passed (runOf (now (self .entry))) ⌝ }
     {
         let Some(record) = self.reader.next()? else {
             return Ok(None);
