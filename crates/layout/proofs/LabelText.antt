@@ -22,6 +22,7 @@ use Rattle.layout.specs.Layout.{printable}
 use Rattle.layout.specs.RoundTrip.{bare, Writable, OnlyForm}
 use Rattle.layout.proofs.Labels.{label-parts}
 use Rattle.layout.proofs.WrittenReads.{offer-parts}
+use Rattle.layout.proofs.Differ.{differ}
 
 ascii-printable : (l : List ℕ) → allPrintable l ≡ true → Ascii l
 ascii-printable [] e = ascii-nil
@@ -35,13 +36,13 @@ ascii-label (offer u b e v m) t a d w l h q =
     let p = ascii-printable m (label-parts m (offer-parts b e m (h .1) .2) .1) in
     let same : trimmed m ≡ l = cc in
     subst Ascii same (ascii-take m (length m - ending (eqb 0x20) m) p)
-ascii-label (strike u) t a d w l h q = let z : _≡_ {A = ℕ} 0 1 = cc in absurd (omega arith)
-ascii-label tick t a d w l h q = let z : _≡_ {A = ℕ} 0 1 = cc in absurd (omega arith)
+ascii-label (strike u) t a d w l h q = absurd (differ (cc))
+ascii-label tick t a d w l h q = absurd (differ (cc))
 
 pub ascii-read : (r : Result (Option Content) ReadFault) (t a d w : ℕ) (l b : List ℕ) → OnlyForm r b → r ≡ Ok (Some (offer t a d w l)) → Ascii l
 ascii-read (Ok (Some c)) t a d w l b h e = ascii-label (h .0 .0) t a d w l (h .0 .1 .0) (let q : c ≡ offer t a d w l = cc in h .0 .1 .1 ∙ q)
-ascii-read (Ok None) t a d w l b h e = let z : _≡_ {A = ℕ} 0 1 = cc in absurd (omega arith)
-ascii-read (Err f) t a d w l b h e = let z : _≡_ {A = ℕ} 0 1 = cc in absurd (omega arith)
+ascii-read (Ok None) t a d w l b h e = absurd (differ (cc))
+ascii-read (Err f) t a d w l b h e = absurd (differ (cc))
 
 -- what is shown is text where the label and the default are
 pub ascii-shown : (l m : List ℕ) → Ascii l → Ascii m → Ascii (shownLabel l m)

@@ -10,6 +10,7 @@ use Rattle.std.proofs.shelf.Lists.{at-drop-more, at-drop-all}
 use Rattle.std.proofs.shelf.Tests.{cond-true, cond-false}
 use Rattle.layout.specs.declared.kind.Kind.{Kind}
 use Rattle.layout.specs.Layout.{allows, firstForbidden}
+use Rattle.layout.proofs.Differ.{differ}
 
 module _ (k : Kind) (bs : List ℕ) (i : ℕ) where
   pub allowed-on : i < length bs → allows k i (getD bs i 0) ≡ true → firstForbidden k i (drop i bs) ≡ firstForbidden k (i + 1) (drop (i + 1) bs)
@@ -23,7 +24,7 @@ module _ (k : Kind) (bs : List ℕ) (i : ℕ) where
 
 -- a forbidden place lies among the bytes looked at
 pub forbidden-within : (k : Kind) (i : ℕ) (bs : List ℕ) (j : ℕ) → Some j ≡ firstForbidden k i bs → j < i + length bs
-forbidden-within k i [] j e = let z : _≡_ {A = ℕ} 0 1 = cc in omega arith
+forbidden-within k i [] j e = absurd (differ (cc))
 forbidden-within k i (b ∷ bs) j e =
     elim (allows k i b) as (λ v. Some j ≡ cond v (firstForbidden k (i + 1) bs) (Some i) → j < i + length (b ∷ bs)) [
       | true ↦ λ p. omega (arith, forbidden-within k (i + 1) bs j p)

@@ -1,4 +1,5 @@
 pub mod BigEndian
+pub mod Differ
 pub mod LabelText
 pub mod Labels
 pub mod Layouts

@@ -2,7 +2,7 @@
 use mathlib.Core.Path.{_≡_, refl, sym, ap, subst, _∙_}
 use mathlib.Core.Bool.{Bool, true, false, cond, _&&_, _||_}
 use mathlib.Core.List.{List, [], _∷_, _++_, map}
-use mathlib.Core.Logic.{_⊎_, inl, inr, ⊎-elim}
+use mathlib.Core.Logic.{_⊎_, inl, inr}
 use Prim.Native.Nat.{ℕ, zero, suc, _+_, _-_, _^_, _<_, _≤_}
 use native.Mathlib.Omega.{arith}
 use lib.Dec.{eqb, ltb, leb}
@@ -19,17 +19,18 @@ use Rattle.layout.specs.declared.kind.Kind.the-variants.{Offer, Strike, Tick}
 use Rattle.layout.specs.BigEndian.{number, bytes, part}
 use Rattle.layout.specs.Content.{Content, offer, strike, tick}
 use Rattle.layout.specs.Label.{allPrintable, isLabel}
-use Rattle.layout.specs.Layout.{kindByte, kindOf, printable, numbersEnd, labelAllows, allows, firstForbidden}
+use Rattle.layout.specs.Layout.{ticketOf, arrivalOf, deadlineOf, workOf, labelOf, kindByte, kindOf, printable, numbersEnd, labelAllows, allows, firstForbidden}
 use Rattle.layout.specs.Reading.{content}
 use Rattle.layout.specs.RoundTrip.{bare, Writable, OnlyForm}
 use Rattle.layout.specs.Writing.{laidOut, blank, encoded}
 use Rattle.layout.proofs.BigEndian.{spelt-out, bytes-number, number-fits}
 use Rattle.layout.proofs.Labels.{label-is, label-parts, same-from-trimmed}
 use Rattle.layout.proofs.WrittenReads.{offer-parts}
+use Rattle.layout.proofs.Differ.{differ}
 
 passed : (v : Bool) (o : Option ℕ) (i : ℕ) → cond v o (Some i) ≡ None → (v ≡ true) × (o ≡ None)
 passed true o i e = (refl, e)
-passed false o i e = let z : _≡_ {A = ℕ} 0 1 = cc in absurd (omega arith)
+passed false o i e = absurd (differ (cc))
 
 -- where no place is forbidden, each is allowed
 none-forbidden : (k : Kind) (i : ℕ) (bs : List ℕ) → firstForbidden k i bs ≡ None → (j m : ℕ) → m ≡ i + j → j < length bs → allows k m (getD bs j 0) ≡ true
@@ -77,7 +78,7 @@ module _ (k : Kind) (b : List ℕ) (long : length b ≡ 24) (small : (i : ℕ) �
   part-fits : (at n : ℕ) → at + n ≤ 24 → number (part at n b) < 256 ^ n
   part-fits at n h = number-fits (drop at b) (small-part at) n (omega (arith, length-drop at b))
 
-  laid-fields : laidOut k (number (part 2 2 b)) (number (part 4 6 b)) (number (part 10 6 b)) (number (part 16 2 b)) (part 18 6 b) ≡ b
+  laid-fields : laidOut k (ticketOf b) (arrivalOf b) (deadlineOf b) (workOf b) (labelOf b) ≡ b
   laid-fields =
       let zero-one : getD b 1 0 ≡ 0 = zero-there k 1 (getD b 1 0) (omega arith) refl (allowed-at 1 (omega arith) (omega arith)) in
       (λ i. sym kind i ∷ sym zero-one i ∷ (part-bytes 2 2 (omega arith) i ++ (part-bytes 4 6 (omega arith) i ++ (part-bytes 10 6 (omega arith) i ++ (part-bytes 16 2 (omega arith) i ++ part 18 6 b)))))
@@ -87,16 +88,31 @@ module _ (k : Kind) (b : List ℕ) (long : length b ≡ 24) (small : (i : ℕ) �
   no-number : (at n : ℕ) → numbersEnd k ≤ at → 1 ≤ at → at + n ≤ 18 → part at n b ≡ replicate n 0
   no-number at n e o h = filled-part b at n 0 (omega arith) (λ i l q. zero-there k i (getD b i 0) (omega arith) (and-right (leb 2 i) (ltb i (numbersEnd k)) (le-ltb i (numbersEnd k) (omega arith))) (allowed-at i (omega arith) (omega arith)))
 
+  no-ticket : numbersEnd k ≤ 2 → 0 ≡ ticketOf b
+  no-ticket e = sym (ap number (no-number 2 2 e (omega arith) (omega arith)))
+
+  no-arrival : numbersEnd k ≤ 4 → 0 ≡ arrivalOf b
+  no-arrival e = sym (ap number (no-number 4 6 e (omega arith) (omega arith)))
+
+  no-deadline : numbersEnd k ≤ 4 → 0 ≡ deadlineOf b
+  no-deadline e = sym (ap number (no-number 10 6 (omega arith) (omega arith) (omega arith)))
+
+  no-work : numbersEnd k ≤ 4 → 0 ≡ workOf b
+  no-work e = sym (ap number (no-number 16 2 (omega arith) (omega arith) (omega arith)))
+
   label-at : (i : ℕ) → 18 ≤ i → i < 24 → labelAllows k (getD b i 0) ≡ true
   label-at i l h = label-there k i (getD b i 0) l (allowed-at i (omega arith) h)
 
-  length-label : length (part 18 6 b) ≡ 6
+  length-label : length (labelOf b) ≡ 6
   length-label = length-take-le 6 (drop 18 b) (omega (arith, length-drop 18 b))
+
+  blank-label : ((v : ℕ) → labelAllows k v ≡ true → v ≡ 0x20) → blank ≡ labelOf b
+  blank-label s = sym (filled-part b 18 6 0x20 (omega arith) (λ i l q. s (getD b i 0) (label-at i l (omega arith))))
 
 -- the content with its whole label
 abbrev whole : Kind → List ℕ → Content
-whole Offer b = offer (number (part 2 2 b)) (number (part 4 6 b)) (number (part 10 6 b)) (number (part 16 2 b)) (part 18 6 b)
-whole Strike b = strike (number (part 2 2 b))
+whole Offer b = offer (ticketOf b) (arrivalOf b) (deadlineOf b) (workOf b) (labelOf b)
+whole Strike b = strike (ticketOf b)
 whole Tick b = tick
 
 bare-whole : (k : Kind) (b : List ℕ) → bare (whole k b) ≡ content k b
@@ -105,33 +121,35 @@ bare-whole Strike b = refl
 bare-whole Tick b = refl
 
 module _ (b : List ℕ) (long : length b ≡ 24) (small : (i : ℕ) → getD b i 0 < 256) where
-  blank-label : (k : Kind) → ((v : ℕ) → labelAllows k v ≡ true → v ≡ 0x20) → getD b 0 0 ≡ kindByte k → firstForbidden k 1 (drop 1 b) ≡ None → part 18 6 b ≡ blank
-  blank-label k s e f = filled-part b 18 6 0x20 (omega arith) (λ i l q. s (getD b i 0) (label-at k b long small e f i l (omega arith)))
-
   encoded-whole : (k : Kind) → getD b 0 0 ≡ kindByte k → firstForbidden k 1 (drop 1 b) ≡ None → encoded (whole k b) ≡ b
   encoded-whole Offer e f = laid-fields Offer b long small e f
   encoded-whole Strike e f =
-      let none = no-number Strike b long small e f in
-      (λ i. laidOut Strike (number (part 2 2 b)) (number (sym (none 4 6 (omega arith) (omega arith) (omega arith)) i)) (number (sym (none 10 6 (omega arith) (omega arith) (omega arith)) i)) (number (sym (none 16 2 (omega arith) (omega arith) (omega arith)) i)) (sym (blank-label Strike (λ v h. eqb-true v 0x20 h) e f) i))
-      ∙ laid-fields Strike b long small e f
+      let arrival = no-arrival Strike b long small e f (omega arith) in
+      let deadline = no-deadline Strike b long small e f (omega arith) in
+      let work = no-work Strike b long small e f (omega arith) in
+      let label = blank-label Strike b long small e f (λ v h. eqb-true v 0x20 h) in
+      (λ i. laidOut Strike (ticketOf b) (arrival i) (deadline i) (work i) (label i)) ∙ laid-fields Strike b long small e f
   encoded-whole Tick e f =
-      let none = no-number Tick b long small e f in
-      (λ i. laidOut Tick (number (sym (none 2 2 (omega arith) (omega arith) (omega arith)) i)) (number (sym (none 4 6 (omega arith) (omega arith) (omega arith)) i)) (number (sym (none 10 6 (omega arith) (omega arith) (omega arith)) i)) (number (sym (none 16 2 (omega arith) (omega arith) (omega arith)) i)) (sym (blank-label Tick (λ v h. eqb-true v 0x20 h) e f) i))
-      ∙ laid-fields Tick b long small e f
+      let ticket = no-ticket Tick b long small e f (omega arith) in
+      let arrival = no-arrival Tick b long small e f (omega arith) in
+      let deadline = no-deadline Tick b long small e f (omega arith) in
+      let work = no-work Tick b long small e f (omega arith) in
+      let label = blank-label Tick b long small e f (λ v h. eqb-true v 0x20 h) in
+      (λ i. laidOut Tick (ticket i) (arrival i) (deadline i) (work i) (label i)) ∙ laid-fields Tick b long small e f
+
+  label-whole : getD b 0 0 ≡ kindByte Offer → firstForbidden Offer 1 (drop 1 b) ≡ None → isLabel (labelOf b) ≡ true
+  label-whole e f =
+      let l = length-label Offer b long small e f in
+      let at = λ (i : ℕ) (h : i < 6). getD-take 6 (drop 18 b) i 0 h ∙ getD-drop 18 b i 0 in
+      let each = λ (i : ℕ) (h : i < length (labelOf b)). ap printable (at i (omega (arith, l))) ∙ label-at Offer b long small e f (18 + i) (omega arith) (omega (arith, l)) in
+      label-is (labelOf b) true l (all-printable (labelOf b) each)
 
   writable-whole : (k : Kind) → getD b 0 0 ≡ kindByte k → firstForbidden k 1 (drop 1 b) ≡ None → Writable (whole k b)
   writable-whole Offer e f =
       let fits = part-fits Offer b long small e f in
-      let l = length-label Offer b long small e f in
-      let label : isLabel (part 18 6 b) ≡ true =
-      label-is (part 18 6 b) true l (all-printable (part 18 6 b) (λ i h.
-      let at = getD-take 6 (drop 18 b) i 0 (omega (arith, l)) ∙ getD-drop 18 b i 0 in
-      ap printable at ∙ label-at Offer b long small e f (18 + i) (omega arith) (omega (arith, l)))) in (
-        (fits 2 2 (omega arith), fits 16 2 (omega arith)),
-        cond-false (ltb 0xffff_ffff_ffff (number (part 4 6 b))) _ _ (le-ltb _ _ (omega (arith, fits 4 6 (omega arith))))
-            ∙ cond-false (ltb 0xffff_ffff_ffff (number (part 10 6 b))) _ _ (le-ltb _ _ (omega (arith, fits 10 6 (omega arith))))
-            ∙ cond-true (isLabel (part 18 6 b)) _ _ label,
-      )
+      let label = label-whole e f in
+      let checks = cond-false (ltb 0xffff_ffff_ffff (arrivalOf b)) _ _ (le-ltb _ _ (omega (arith, fits 4 6 (omega arith)))) ∙ cond-false (ltb 0xffff_ffff_ffff (deadlineOf b)) _ _ (le-ltb _ _ (omega (arith, fits 10 6 (omega arith)))) ∙ cond-true (isLabel (labelOf b)) _ _ label in
+      ((fits 2 2 (omega arith), fits 16 2 (omega arith)), checks)
   writable-whole Strike e f = (part-fits Strike b long small e f 2 2 (omega arith), refl)
   writable-whole Tick e f = (tt, refl)
 
@@ -142,29 +160,28 @@ same-content (offer t a d w l) (offer u b e v m) p q h =
     let me = label-parts m (offer-parts b e m (q .1) .2) .0 in
     let same : l ≡ m = same-from-trimmed l m (le ∙ sym me) cc in
     cc
-same-content (offer t a d w l) (strike u) p q h = let z : _≡_ {A = ℕ} 0 1 = cc in absurd (omega arith)
-same-content (offer t a d w l) tick p q h = let z : _≡_ {A = ℕ} 0 1 = cc in absurd (omega arith)
-same-content (strike t) (offer u b e v m) p q h = let z : _≡_ {A = ℕ} 0 1 = cc in absurd (omega arith)
+same-content (offer t a d w l) (strike u) p q h = absurd (differ (cc))
+same-content (offer t a d w l) tick p q h = absurd (differ (cc))
+same-content (strike t) (offer u b e v m) p q h = absurd (differ (cc))
 same-content (strike t) (strike u) p q h = h
-same-content (strike t) tick p q h = let z : _≡_ {A = ℕ} 0 1 = cc in absurd (omega arith)
-same-content tick (offer u b e v m) p q h = let z : _≡_ {A = ℕ} 0 1 = cc in absurd (omega arith)
-same-content tick (strike u) p q h = let z : _≡_ {A = ℕ} 0 1 = cc in absurd (omega arith)
+same-content (strike t) tick p q h = absurd (differ (cc))
+same-content tick (offer u b e v m) p q h = absurd (differ (cc))
+same-content tick (strike u) p q h = absurd (differ (cc))
 same-content tick tick p q h = refl
 
 kind-tests : (p q r : Bool) (k : Kind) → cond p (Some Offer) (cond q (Some Strike) (cond r (Some Tick) None)) ≡ Some k → ((p ≡ true) × (Offer ≡ k)) ⊎ (((q ≡ true) × (Strike ≡ k)) ⊎ ((r ≡ true) × (Tick ≡ k)))
 kind-tests true q r k e = inl (refl, cc)
 kind-tests false true r k e = inr (inl (refl, cc))
 kind-tests false false true k e = inr (inr (refl, cc))
-kind-tests false false false k e = let z : _≡_ {A = ℕ} 0 1 = cc in absurd (omega arith)
+kind-tests false false false k e = absurd (differ (cc))
+
+by-kind : {v : ℕ} {k : Kind} → ((eqb v 0x4f ≡ true) × (Offer ≡ k)) ⊎ (((eqb v 0x53 ≡ true) × (Strike ≡ k)) ⊎ ((eqb v 0x54 ≡ true) × (Tick ≡ k))) → v ≡ kindByte k
+by-kind {v} (inl p) = eqb-true v 0x4f (p .0) ∙ ap kindByte (p .1)
+by-kind {v} (inr (inl p)) = eqb-true v 0x53 (p .0) ∙ ap kindByte (p .1)
+by-kind {v} (inr (inr p)) = eqb-true v 0x54 (p .0) ∙ ap kindByte (p .1)
 
 kind-byte : (v : ℕ) (k : Kind) → kindOf v ≡ Some k → v ≡ kindByte k
-kind-byte v k e =
-    ⊎-elim
-    (λ (p : (eqb v 0x4f ≡ true) × (Offer ≡ k)). eqb-true v 0x4f (p .0) ∙ ap kindByte (p .1))
-    (⊎-elim
-    (λ (p : (eqb v 0x53 ≡ true) × (Strike ≡ k)). eqb-true v 0x53 (p .0) ∙ ap kindByte (p .1))
-    (λ (p : (eqb v 0x54 ≡ true) × (Tick ≡ k)). eqb-true v 0x54 (p .0) ∙ ap kindByte (p .1)))
-    (kind-tests (eqb v 0x4f) (eqb v 0x53) (eqb v 0x54) k e)
+kind-byte v k e = by-kind (kind-tests (eqb v 0x4f) (eqb v 0x53) (eqb v 0x54) k e)
 
 -- what a reader says of 24 bytes of a kind, none of them forbidden
 pub only-form : (k : Kind) (b : List ℕ) → length b ≡ 24 → ((i : ℕ) → getD b i 0 < 256) → Some k ≡ kindOf (getD b 0 0) → None ≡ firstForbidden k 1 (drop 1 b) → (c : Content) → c ≡ content k b → OnlyForm (Ok (Some c)) b

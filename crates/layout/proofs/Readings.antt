@@ -19,6 +19,7 @@ use Rattle.layout.specs.Content.{Content}
 use Rattle.layout.specs.Layout.{kindOf, firstForbidden}
 use Rattle.layout.specs.Reading.{content, unlessForbidden, parsedAs, parsed, one, readAt, placeAfter}
 use Rattle.layout.specs.RoundTrip.{OnlyForm}
+use Rattle.layout.proofs.Differ.{differ}
 
 module _ (s : List ℕ) (p : ℕ) where
   pub read-end : length s ≤ p → readAt s p ≡ Ok None
@@ -47,11 +48,11 @@ module _ (s : List ℕ) (p : ℕ) where
   only-part m r e h = subst (λ k. OnlyForm r (take k (drop p s))) e h
 
 not-cut-unless : (p : ℕ) (c : Content) (o : Option ℕ) (at : ℕ) → unlessForbidden p o c ≡ Err (Cut at) → ⊥
-not-cut-unless p c None at e = let z : _≡_ {A = ℕ} 0 1 = cc in omega arith
-not-cut-unless p c (Some i) at e = let z : _≡_ {A = ℕ} 0 1 = cc in omega arith
+not-cut-unless p c None at e = differ (cc)
+not-cut-unless p c (Some i) at e = differ (cc)
 
 not-cut-as : (p : ℕ) (b : List ℕ) (k : Option Kind) (at : ℕ) → parsedAs p b k ≡ Err (Cut at) → ⊥
-not-cut-as p b None at e = let z : _≡_ {A = ℕ} 0 1 = cc in omega arith
+not-cut-as p b None at e = differ (cc)
 not-cut-as p b (Some k) at e = not-cut-unless p (content k b) (firstForbidden k 1 (drop 1 b)) at e
 
 -- a whole record is not cut

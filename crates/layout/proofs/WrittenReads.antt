@@ -25,11 +25,12 @@ use Rattle.layout.specs.Writing.{checked, checkedOffer, encoded, encodedBy, ro
 use Rattle.layout.proofs.BigEndian.{number-bytes}
 use Rattle.layout.proofs.Labels.{label-parts}
 use Rattle.layout.proofs.Readings.{read-whole}
+use Rattle.layout.proofs.Differ.{differ}
 
 tests : (p q r : Bool) → _≡_ {A = Result (Unit {0}) WriteFault} (cond p (Err (Field Arrival)) (cond q (Err (Field Deadline)) (cond r (Ok tt) (Err (Field Label))))) (Ok tt) → (p ≡ false) × (q ≡ false) × (r ≡ true)
-tests true q r e = let z : _≡_ {A = ℕ} 0 1 = cc in absurd (omega arith)
-tests false true r e = let z : _≡_ {A = ℕ} 0 1 = cc in absurd (omega arith)
-tests false false false e = let z : _≡_ {A = ℕ} 0 1 = cc in absurd (omega arith)
+tests true q r e = absurd (differ (cc))
+tests false true r e = absurd (differ (cc))
+tests false false false e = absurd (differ (cc))
 tests false false true e = (refl, refl, refl)
 
 -- what an offer that is not refused has
@@ -70,7 +71,7 @@ written-reads x h before after =
 
 encoded-by : (r : Result (Unit {0}) WriteFault) (b bs : List ℕ) → Ok bs ≡ encodedBy r b → (r ≡ Ok tt) × (bs ≡ b)
 encoded-by (Ok u) b bs e = (refl, cc)
-encoded-by (Err f) b bs e = let z : _≡_ {A = ℕ} 0 1 = cc in absurd (omega arith)
+encoded-by (Err f) b bs e = absurd (differ (cc))
 
 -- a record whose bytes bs were made, written where there is room
 module _ (x : Content) (s bs : List ℕ) (made : Ok bs ≡ encodedBy (checked x) (encoded x)) (room : 24 ≤ length s) where

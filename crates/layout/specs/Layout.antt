@@ -8,6 +8,23 @@ use Rattle.std.specs.declared.option.Option.{Option}
 use Rattle.std.specs.declared.option.Option.the-variants.{Some, None}
 use Rattle.layout.specs.declared.kind.Kind.{Kind}
 use Rattle.layout.specs.declared.kind.Kind.the-variants.{Offer, Strike, Tick}
+use Rattle.layout.specs.BigEndian.{number, part}
+
+-- the fields of 24 bytes
+abbrev pub ticketOf : List ℕ → ℕ
+ticketOf b = number (part 2 2 b)
+
+abbrev pub arrivalOf : List ℕ → ℕ
+arrivalOf b = number (part 4 6 b)
+
+abbrev pub deadlineOf : List ℕ → ℕ
+deadlineOf b = number (part 10 6 b)
+
+abbrev pub workOf : List ℕ → ℕ
+workOf b = number (part 16 2 b)
+
+abbrev pub labelOf : List ℕ → List ℕ
+labelOf b = part 18 6 b
 
 abbrev pub kindByte : Kind → ℕ
 kindByte Offer = 0x4f

@@ -15,13 +15,13 @@ use Rattle.layout.specs.declared.kind.Kind.{Kind}
 use Rattle.layout.specs.declared.kind.Kind.the-variants.{Offer, Strike, Tick}
 use Rattle.layout.specs.Content.{Content, offer, strike, tick, contentOf}
 use Rattle.layout.specs.Label.{trimmed}
-use Rattle.layout.specs.Layout.{kindOf, firstForbidden}
-use Rattle.layout.specs.BigEndian.{number, part}
+use Rattle.layout.specs.Layout.{ticketOf, arrivalOf, deadlineOf, workOf, labelOf, kindOf, firstForbidden}
+use Rattle.layout.specs.BigEndian.{part}
 
 -- what 24 bytes of a kind say
 abbrev pub content : Kind → List ℕ → Content
-content Offer b = offer (number (part 2 2 b)) (number (part 4 6 b)) (number (part 10 6 b)) (number (part 16 2 b)) (trimmed (part 18 6 b))
-content Strike b = strike (number (part 2 2 b))
+content Offer b = offer (ticketOf b) (arrivalOf b) (deadlineOf b) (workOf b) (trimmed (labelOf b))
+content Strike b = strike (ticketOf b)
 content Tick b = tick
 
 -- the content, unless a place of the record is forbidden

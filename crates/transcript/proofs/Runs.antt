@@ -25,6 +25,7 @@ use Rattle.transcript.specs.declared.fault.BenchFault.the-variants.{Read}
 use Rattle.transcript.specs.Entries.{Entry, refused, readEntry, stepAt, toldEntry, entryAt, overBy}
 use Rattle.transcript.specs.Run.{Run, startOf, nextEntry, nextRun}
 use Rattle.transcript.specs.Text.{lineText, records}
+use Rattle.layout.proofs.Differ.{differ}
 
 -- what remains of an input at a place: nothing, less than a record, or a record
 data Remains (s : List ℕ) (p : ℕ) : Type 0 where
@@ -48,11 +49,11 @@ goes-on (Err (Forbidden at)) h = refl
 
 -- something is said of every record
 told-some : (p : ℕ) (r : Result Content ReadFault) → toldEntry p (readEntry (one r)) ≡ None → ⊥
-told-some p (Ok c) e = let z : _≡_ {A = ℕ} 0 1 = cc in omega arith
-told-some p (Err f) e = let z : _≡_ {A = ℕ} 0 1 = cc in omega arith
+told-some p (Ok c) e = differ (cc)
+told-some p (Err f) e = differ (cc)
 
 none-some : {X : Type 0} (o : Option X) (x : X) → o ≡ None → o ≡ Some x → ⊥
-none-some o x p q = let z : _≡_ {A = ℕ} 0 1 = cc in omega arith
+none-some o x p q = differ (cc)
 
 -- k lines are printed: the next record is the k-th, or the run is over
 abbrev pub Running : Run → ℕ → Type 0
