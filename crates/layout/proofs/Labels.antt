@@ -6,9 +6,9 @@ use mathlib.Core.Logic.{⊎-elim}
 use Prim.Native.Nat.{ℕ, zero, suc, _+_, _-_, _<_, _≤_}
 use native.Mathlib.Omega.{arith}
 use lib.Dec.{eqb}
-use lib.ListN.{length, getD, take, drop}
+use lib.ListN.{length, getD, drop}
 use Rattle.std.specs.shelf.Lists.{ending, leading}
-use Rattle.std.proofs.shelf.Lists.{at-drop-more, at-drop-all, length-take-le, getD-take, getD-reverse, ext-getD}
+use Rattle.std.proofs.shelf.Lists.{at-drop-more, length-take-le, getD-take, getD-reverse, ext-getD}
 use Rattle.std.proofs.shelf.Sums.{ending-le-length}
 use Rattle.std.proofs.shelf.Tests.{eq-eqb, ne-eqb, eqb-true, and-parts, cases-lt}
 use Rattle.layout.specs.Layout.{printable}
@@ -23,9 +23,6 @@ module _ (l : List ℕ) (i : ℕ) (h : i < length l) where
 
 pub label-is : (l : List ℕ) (b : Bool) → length l ≡ 6 → allPrintable l ≡ b → isLabel l ≡ b
 label-is l b e p = ap (λ t. t && allPrintable l) (eq-eqb (length l) 6 e) ∙ p
-
-pub label-short : (l : List ℕ) → (length l ≡ 6 → ⊥) → isLabel l ≡ false
-label-short l n = ap (λ t. t && allPrintable l) (ne-eqb (length l) 6 n)
 
 -- what the test of a label says
 pub label-parts : (l : List ℕ) → isLabel l ≡ true → (length l ≡ 6) × (allPrintable l ≡ true)

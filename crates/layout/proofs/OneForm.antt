@@ -1,17 +1,15 @@
 -- An accepted record has one written form.
 use mathlib.Core.Path.{_≡_, refl, sym, ap, subst, _∙_}
 use mathlib.Core.Bool.{Bool, true, false, cond, _&&_, _||_}
-use mathlib.Core.List.{List, [], _∷_, _++_, map}
+use mathlib.Core.List.{List, [], _∷_, _++_}
 use mathlib.Core.Logic.{_⊎_, inl, inr}
 use Prim.Native.Nat.{ℕ, zero, suc, _+_, _-_, _^_, _<_, _≤_}
 use native.Mathlib.Omega.{arith}
 use lib.Dec.{eqb, ltb, leb}
-use lib.ListN.{length, getD, take, drop, replicate}
-use Rattle.std.specs.Iters.{counting}
+use lib.ListN.{length, getD, drop, replicate}
 use Rattle.std.specs.declared.option.Option.{Option}
 use Rattle.std.specs.declared.option.Option.the-variants.{Some, None}
-use Rattle.std.specs.declared.result.Result.{Result}
-use Rattle.std.specs.declared.result.Result.the-variants.{Ok, Err}
+use Rattle.std.specs.declared.result.Result.the-variants.{Ok}
 use Rattle.std.proofs.shelf.Lists.{length-drop, length-take-le, length-replicate, getD-drop, getD-take, getD-replicate, ext-getD}
 use Rattle.std.proofs.shelf.Tests.{cond-true, cond-false, le-ltb, lt-ltb, eqb-true, and-from, and-right}
 use Rattle.layout.specs.declared.kind.Kind.{Kind}

@@ -6,8 +6,7 @@ use Prim.Native.Nat.{ℕ, _+_, _-_, _^_, _<_, _≤_}
 use native.Mathlib.Omega.{arith}
 use lib.Dec.{ltb}
 use lib.ListN.{length, take, drop}
-use Rattle.std.specs.declared.option.Option.{Option}
-use Rattle.std.specs.declared.option.Option.the-variants.{Some, None}
+use Rattle.std.specs.declared.option.Option.the-variants.{None}
 use Rattle.std.specs.declared.result.Result.{Result}
 use Rattle.std.specs.declared.result.Result.the-variants.{Ok, Err}
 use Rattle.std.proofs.shelf.Lists.{take-all, take-at, drop-at, length-append}
@@ -19,7 +18,7 @@ use Rattle.layout.specs.declared.kind.Kind.the-variants.{Offer}
 use Rattle.layout.specs.Content.{Content, offer, strike, tick}
 use Rattle.layout.specs.Label.{trimmed, isLabel, allPrintable}
 use Rattle.layout.specs.Layout.{printable, allows, firstForbidden}
-use Rattle.layout.specs.Reading.{content, unlessForbidden, parsed, one, readAt}
+use Rattle.layout.specs.Reading.{content, unlessForbidden, parsed, one}
 use Rattle.layout.specs.RoundTrip.{Sized, bare, Writable, ReadsAs}
 use Rattle.layout.specs.Writing.{checked, checkedOffer, encoded, encodedBy, roomFor, writeOf, writtenBy, writtenInto}
 use Rattle.layout.proofs.BigEndian.{number-bytes}

@@ -1,6 +1,6 @@
 -- The layout of 24 bytes: byte 0 the kind, byte 1 zero, then ticket (2-3), arrival (4-9), deadline (10-15),
 -- work (16-17) and label (18-23).
-use mathlib.Core.Bool.{Bool, true, _&&_, _||_, cond}
+use mathlib.Core.Bool.{Bool, _&&_, _||_, cond}
 use mathlib.Core.List.{List, [], _∷_}
 use Prim.Native.Nat.{ℕ, _+_}
 use lib.Dec.{eqb, ltb, leb}

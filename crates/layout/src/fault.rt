@@ -1,5 +1,4 @@
 // Why a record is not read or not written.
-ghost use mathlib.Core.Path.{_≡_};
 ghost use Rattle.layout.specs.Refusals.{readRefusal, writeRefusal};
 use refusal::Fault;
 use refusal::Layer;

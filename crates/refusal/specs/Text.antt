@@ -1,4 +1,4 @@
-use mathlib.Core.List.{List, [], _∷_, _++_}
+use mathlib.Core.List.{List, _∷_, _++_}
 use Prim.Native.Nat.{ℕ}
 use Rattle.std.specs.Written.{decimal}
 use Rattle.refusal.specs.declared.Values.{Values}

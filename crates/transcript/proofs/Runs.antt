@@ -19,7 +19,7 @@ use Rattle.layout.specs.declared.fault.ReadFault.{ReadFault}
 use Rattle.layout.specs.declared.fault.ReadFault.the-variants.{Cut, UnknownKind, Forbidden}
 use Rattle.layout.specs.BigEndian.{part}
 use Rattle.layout.specs.Content.{Content}
-use Rattle.layout.specs.Reading.{parsed, one, readAt, placeAfter}
+use Rattle.layout.specs.Reading.{parsed, one, placeAfter}
 use Rattle.layout.proofs.Readings.{read-end, read-cut, read-whole, not-cut, stays, moves-on}
 use Rattle.transcript.specs.declared.fault.BenchFault.the-variants.{Read}
 use Rattle.transcript.specs.Entries.{Entry, refused, readEntry, stepAt, toldEntry, entryAt, overBy}
@@ -102,9 +102,6 @@ onward r k e (inr g) h = absurd (none-some (nextEntry r) e (cond-true (r .over) 
 pub finished : (r : Run) (k : ℕ) → Running r k → nextEntry r ≡ None → k ≡ records (r .input)
 finished r k (inl g) h = finished-going r k (g .0) (g .1) (g .2) h (remains (r .input) (r .place))
 finished r k (inr g) h = g .1
-
-pub starts : (s : List ℕ) → Running (startOf s) 0
-starts s = inl (refl, refl, omega arith)
 
 -- the text of the first k lines, and of one more
 abbrev pub front : List ℕ → ℕ → List ℕ

@@ -1,7 +1,6 @@
 -- The refusals of the bench.
 use mathlib.Core.Bool.{Bool, true, false}
 use Rattle.refusal.specs.declared.Refusal.{Refusal}
-use Rattle.layout.specs.declared.fault.ReadFault.{ReadFault}
 use Rattle.layout.specs.declared.fault.ReadFault.the-variants.{Cut, UnknownKind, Forbidden}
 use Rattle.layout.specs.Refusals.{readRefusal}
 use Rattle.transcript.specs.declared.fault.BenchFault.{BenchFault}

@@ -1,9 +1,8 @@
-use borrow.Author.Needs.{needs}
 use mathlib.Core.Path.{sym, _∙_}
 use mathlib.Core.Bool.{true, false}
 use Rattle.std.proofs.shelf.Lists.{at-drop-all}
 use Rattle.layout.specs.Label.{allPrintable}
-use Rattle.layout.proofs.Labels.{printable-on, printable-not, label-is, label-short}
+use Rattle.layout.proofs.Labels.{printable-on, printable-not, label-is}
 use Rattle.record.proofs.label.is_label.Needs as need
 
 pub returns-then-not-is-printable : need.returns-then-not-is-printable

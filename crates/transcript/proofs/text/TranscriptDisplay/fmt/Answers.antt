@@ -4,7 +4,7 @@ use Prim.Native.Nat.{ℕ, _+_, _*_}
 use Rattle.std.specs.declared.option.Option.the-variants.{Some}
 use Rattle.std.proofs.Writes.{put-more, put-is}
 use Rattle.transcript.specs.Entries.{entryOf, entryAt}
-use Rattle.transcript.specs.Run.{Run, runOf, nextEntry}
+use Rattle.transcript.specs.Run.{Run, runOf}
 use Rattle.transcript.specs.Text.{lineText, records}
 use Rattle.transcript.proofs.Runs.{Running, front, front-more, onward, finished}
 use Rattle.transcript.proofs.text.TranscriptDisplay.fmt.Needs as need
