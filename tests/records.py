@@ -1,15 +1,17 @@
 #!/usr/bin/env python3
 """A reader of records of its own, which works out what `bench` has to print.
 
-    tests/records.py            check the stored files: each .txt and crates/bench/stdout is what this program says of its records
-    tests/records.py --write    write the stored files anew
-    tests/records.py FILE       print what bench has to print for FILE
+    tests/records.py                    check the stored files: each output is what this program says of its records
+    tests/records.py --write            write the stored files anew
+    tests/records.py --against BENCH    run the program BENCH on 1,500 files made by chance, and compare
+    tests/records.py FILE               print what bench has to print for FILE
 
 It shares no code with the program: it was written from docs/FORMATS.md alone.
 """
 import pathlib
 import random
 import struct
+import subprocess
 import sys
 
 ROOT = pathlib.Path(__file__).resolve().parent.parent
@@ -101,6 +103,30 @@ def long_file():
     return b''.join(records)
 
 
+def by_chance(chance):
+    """A short file: most records good, some bytes wrong, the last record often cut."""
+    records = []
+    for _ in range(chance.randrange(40)):
+        label = bytes(chance.choice(b' ~ab\x1f\x7f') for _ in range(6))
+        record = chance.choice((strike(3), TICK, offer(1, 2, 3, 4, b'a b'), offer(chance.randrange(2 ** 16), 0, chance.randrange(2 ** 48), 0, label)))
+        records.append(bytes(byte if chance.random() > 0.02 else chance.randrange(256) for byte in record))
+    data = b''.join(records)
+    return data[:max(0, len(data) - chance.randrange(48))]
+
+
+def against(program):
+    """How many files the program prints otherwise than this one."""
+    chance = random.Random(1)
+    files = [by_chance(chance) for _ in range(1_500)] + [(TICK * 3_000)[:size] for size in (LIMIT - 1, LIMIT, LIMIT + 1, LIMIT + 24)]
+    wrong = 0
+    for data in files:
+        run = subprocess.run([program], input=data, capture_output=True, check=False)
+        if run.returncode != 0 or run.stdout != transcript(data):
+            wrong += 1
+    print(f'records.py: {len(files) - wrong} files are printed alike, {wrong} are not')
+    return wrong
+
+
 def stored():
     """Each stored file with what it has to hold."""
     return {
@@ -116,6 +142,8 @@ def main(words):
         for path, data in stored().items():
             path.write_bytes(data)
         return 0
+    if words[:1] == ['--against'] and len(words) == 2:
+        return 1 if against(words[1]) else 0
     if words:
         sys.stdout.buffer.write(transcript(pathlib.Path(words[0]).read_bytes()))
         return 0
