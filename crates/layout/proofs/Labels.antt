@@ -14,12 +14,9 @@ use Rattle.std.proofs.shelf.Tests.{eq-eqb, ne-eqb, eqb-true, and-parts, cases-l
 use Rattle.layout.specs.Layout.{printable}
 use Rattle.layout.specs.Label.{trimmed, allPrintable, isLabel}
 
-module _ (l : List ℕ) (i : ℕ) (h : i < length l) where
-  pub printable-on : printable (getD l i 0) ≡ true → allPrintable (drop i l) ≡ allPrintable (drop (i + 1) l)
-  printable-on e = at-drop-more allPrintable l i 0 h ∙ ap (λ b. b && allPrintable (drop (i + 1) l)) e
-
-  pub printable-not : printable (getD l i 0) ≡ false → allPrintable (drop i l) ≡ false
-  printable-not e = at-drop-more allPrintable l i 0 h ∙ ap (λ b. b && allPrintable (drop (i + 1) l)) e
+-- one place on, where the byte there is printable or not
+pub printable-step : (l : List ℕ) (i : ℕ) (v : Bool) → i < length l → v ≡ printable (getD l i 0) → allPrintable (drop i l) ≡ (v && allPrintable (drop (i + 1) l))
+printable-step l i v h e = at-drop-more allPrintable l i 0 h ∙ ap (λ t. t && allPrintable (drop (i + 1) l)) (sym e)
 
 pub label-is : (l : List ℕ) (b : Bool) → length l ≡ 6 → allPrintable l ≡ b → isLabel l ≡ b
 label-is l b e p = ap (λ t. t && allPrintable l) (eq-eqb (length l) 6 e) ∙ p

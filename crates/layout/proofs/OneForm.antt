@@ -86,17 +86,8 @@ module _ (k : Kind) (b : List ℕ) (long : length b ≡ 24) (small : (i : ℕ) �
   no-number : (at n : ℕ) → numbersEnd k ≤ at → 1 ≤ at → at + n ≤ 18 → part at n b ≡ replicate n 0
   no-number at n e o h = filled-part b at n 0 (omega arith) (λ i l q. zero-there k i (getD b i 0) (omega arith) (and-right (leb 2 i) (ltb i (numbersEnd k)) (le-ltb i (numbersEnd k) (omega arith))) (allowed-at i (omega arith) (omega arith)))
 
-  no-ticket : numbersEnd k ≤ 2 → 0 ≡ ticketOf b
-  no-ticket e = sym (ap number (no-number 2 2 e (omega arith) (omega arith)))
-
-  no-arrival : numbersEnd k ≤ 4 → 0 ≡ arrivalOf b
-  no-arrival e = sym (ap number (no-number 4 6 e (omega arith) (omega arith)))
-
-  no-deadline : numbersEnd k ≤ 4 → 0 ≡ deadlineOf b
-  no-deadline e = sym (ap number (no-number 10 6 (omega arith) (omega arith) (omega arith)))
-
-  no-work : numbersEnd k ≤ 4 → 0 ≡ workOf b
-  no-work e = sym (ap number (no-number 16 2 (omega arith) (omega arith) (omega arith)))
+  no-field : (at n : ℕ) → numbersEnd k ≤ at → 1 ≤ at → at + n ≤ 18 → number (replicate n 0) ≡ number (part at n b)
+  no-field at n e o h = sym (ap number (no-number at n e o h))
 
   label-at : (i : ℕ) → 18 ≤ i → i < 24 → labelAllows k (getD b i 0) ≡ true
   label-at i l h = label-there k i (getD b i 0) l (allowed-at i (omega arith) h)
@@ -122,16 +113,18 @@ module _ (b : List ℕ) (long : length b ≡ 24) (small : (i : ℕ) → getD b i
   encoded-whole : (k : Kind) → getD b 0 0 ≡ kindByte k → firstForbidden k 1 (drop 1 b) ≡ None → encoded (whole k b) ≡ b
   encoded-whole Offer e f = laid-fields Offer b long small e f
   encoded-whole Strike e f =
-      let arrival = no-arrival Strike b long small e f (omega arith) in
-      let deadline = no-deadline Strike b long small e f (omega arith) in
-      let work = no-work Strike b long small e f (omega arith) in
+      let none = no-field Strike b long small e f in
+      let arrival = none 4 6 (omega arith) (omega arith) (omega arith) in
+      let deadline = none 10 6 (omega arith) (omega arith) (omega arith) in
+      let work = none 16 2 (omega arith) (omega arith) (omega arith) in
       let label = blank-label Strike b long small e f (λ v h. eqb-true v 0x20 h) in
       (λ i. laidOut Strike (ticketOf b) (arrival i) (deadline i) (work i) (label i)) ∙ laid-fields Strike b long small e f
   encoded-whole Tick e f =
-      let ticket = no-ticket Tick b long small e f (omega arith) in
-      let arrival = no-arrival Tick b long small e f (omega arith) in
-      let deadline = no-deadline Tick b long small e f (omega arith) in
-      let work = no-work Tick b long small e f (omega arith) in
+      let none = no-field Tick b long small e f in
+      let ticket = none 2 2 (omega arith) (omega arith) (omega arith) in
+      let arrival = none 4 6 (omega arith) (omega arith) (omega arith) in
+      let deadline = none 10 6 (omega arith) (omega arith) (omega arith) in
+      let work = none 16 2 (omega arith) (omega arith) (omega arith) in
       let label = blank-label Tick b long small e f (λ v h. eqb-true v 0x20 h) in
       (λ i. laidOut Tick (ticket i) (arrival i) (deadline i) (work i) (label i)) ∙ laid-fields Tick b long small e f
 
