@@ -6,7 +6,7 @@
     tests/records.py --against BENCH    run the program BENCH on 1,500 files made by chance, and compare
     tests/records.py FILE               print what bench has to print for FILE
 
-It shares no code with the program: it was written from docs/FORMATS.md alone.
+It follows docs/FORMATS.md and shares no code with the program.
 """
 import pathlib
 import random

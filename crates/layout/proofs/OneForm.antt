@@ -98,6 +98,15 @@ module _ (k : Kind) (b : List ℕ) (long : length b ≡ 24) (small : (i : ℕ) �
   blank-label : ((v : ℕ) → labelAllows k v ≡ true → v ≡ 0x20) → blank ≡ labelOf b
   blank-label s = sym (filled-part b 18 6 0x20 (omega arith) (λ i l q. s (getD b i 0) (label-at i l (omega arith))))
 
+  -- a record with no number but its ticket, and a blank label
+  laid-blank : numbersEnd k ≤ 4 → ((v : ℕ) → labelAllows k v ≡ true → v ≡ 0x20) → laidOut k (ticketOf b) 0 0 0 blank ≡ b
+  laid-blank e s =
+      let arrival = no-field 4 6 e (omega arith) (omega arith) in
+      let deadline = no-field 10 6 (omega arith) (omega arith) (omega arith) in
+      let work = no-field 16 2 (omega arith) (omega arith) (omega arith) in
+      let label = blank-label s in
+      (λ i. laidOut k (ticketOf b) (arrival i) (deadline i) (work i) (label i)) ∙ laid-fields
+
 -- the content with its whole label
 abbrev whole : Kind → List ℕ → Content
 whole Offer b = offer (ticketOf b) (arrivalOf b) (deadlineOf b) (workOf b) (labelOf b)
@@ -112,21 +121,10 @@ bare-whole Tick b = refl
 module _ (b : List ℕ) (long : length b ≡ 24) (small : (i : ℕ) → getD b i 0 < 256) where
   encoded-whole : (k : Kind) → getD b 0 0 ≡ kindByte k → firstForbidden k 1 (drop 1 b) ≡ None → encoded (whole k b) ≡ b
   encoded-whole Offer e f = laid-fields Offer b long small e f
-  encoded-whole Strike e f =
-      let none = no-field Strike b long small e f in
-      let arrival = none 4 6 (omega arith) (omega arith) (omega arith) in
-      let deadline = none 10 6 (omega arith) (omega arith) (omega arith) in
-      let work = none 16 2 (omega arith) (omega arith) (omega arith) in
-      let label = blank-label Strike b long small e f (λ v h. eqb-true v 0x20 h) in
-      (λ i. laidOut Strike (ticketOf b) (arrival i) (deadline i) (work i) (label i)) ∙ laid-fields Strike b long small e f
+  encoded-whole Strike e f = laid-blank Strike b long small e f (omega arith) (λ v h. eqb-true v 0x20 h)
   encoded-whole Tick e f =
-      let none = no-field Tick b long small e f in
-      let ticket = none 2 2 (omega arith) (omega arith) (omega arith) in
-      let arrival = none 4 6 (omega arith) (omega arith) (omega arith) in
-      let deadline = none 10 6 (omega arith) (omega arith) (omega arith) in
-      let work = none 16 2 (omega arith) (omega arith) (omega arith) in
-      let label = blank-label Tick b long small e f (λ v h. eqb-true v 0x20 h) in
-      (λ i. laidOut Tick (ticket i) (arrival i) (deadline i) (work i) (label i)) ∙ laid-fields Tick b long small e f
+      let ticket = no-field Tick b long small e f 2 2 (omega arith) (omega arith) (omega arith) in
+      (λ i. laidOut Tick (ticket i) 0 0 0 blank) ∙ laid-blank Tick b long small e f (omega arith) (λ v h. eqb-true v 0x20 h)
 
   label-whole : getD b 0 0 ≡ kindByte Offer → firstForbidden Offer 1 (drop 1 b) ≡ None → isLabel (labelOf b) ≡ true
   label-whole e f =

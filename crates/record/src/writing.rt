@@ -40,7 +40,7 @@ fn check_offer(arrival: u64, deadline: u64, label: &[u8]) -> Result<(), WriteFau
 // The label of a strike or a tick.
 const BLANK: &[u8] = b"      ";
 
-// 24 bytes with these fields, of which the ticks fit six bytes.
+// 24 bytes with these fields: of arrival and deadline the low six bytes.
 fn lay_out(
     kind: Kind,
     ticket: u16,
