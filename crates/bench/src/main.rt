@@ -1,4 +1,6 @@
 // Reads a console's file of records from standard input, and prints a line for each.
+#![tactic(auto)]
+
 use std::io::Read;
 use transcript::Transcript;
 

@@ -17,6 +17,8 @@
 //!
 //! The definitions of reading and writing stand here too, in specs/, with the laws that tie them, in proofs/;
 //! the crate `record` has the reader and the writer.
+#![tactic(auto)]
+
 mod content;
 mod fault;
 mod kind;

@@ -1,4 +1,6 @@
 //! The reader and the writer of 24-byte records. The crate `layout` has what a record says.
+#![tactic(auto)]
+
 mod label;
 mod numbers;
 mod reading;

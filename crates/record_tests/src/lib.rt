@@ -1,4 +1,6 @@
 //! Tests of the records and of what is printed of them.
+#![tactic(auto)]
+
 #[cfg(test)]
 mod printing;
 #[cfg(test)]

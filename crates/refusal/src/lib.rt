@@ -1,4 +1,6 @@
 //! What a refused call returns, for every layer of the governor.
+#![tactic(auto)]
+
 ghost use Rattle.std.specs.Prelude.{◌≡◌, Some};
 ghost use Rattle.refusal.specs.declared.Refusal.{Refusal as Told};
 ghost use Rattle.refusal.specs.Text.{refusal_text};

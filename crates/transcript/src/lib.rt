@@ -1,4 +1,6 @@
 // What `bench` prints of a file of records: a line for each.
+#![tactic(auto)]
+
 mod bench;
 mod fault;
 mod line;

@@ -4,4 +4,4 @@ use Rattle.layout.proofs.BigEndian.{spelt_out}
 use Rattle.record.proofs.numbers.read_u16.Goals as goal
 
 pub returns : goal.returns
-returns c = omega (arith, c.from-be-bytes.ensures, ap number (spelt_out 2 c.args.bytes.now c.requires))
+returns c = omega (arith, c.from_be_bytes.ensures, ap number (spelt_out 2 c.args.bytes.now c.requires))

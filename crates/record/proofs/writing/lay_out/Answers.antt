@@ -8,8 +8,8 @@ returns c =
     let six = λ (l : List ℕ). take 6 (drop 2 l) in
     filled_is c.args.kind c.args.ticket c.args.arrival c.args.deadline c.args.work c.args.label.now _ _ _ _ _ _
     c.byte.ensures
-    (c.copy-from-slice.ensures.after ∙ c.to-be-bytes.ensures)
-    (c.copy-from-slice-2.ensures.after ∙ ap six c.to-be-bytes-2.ensures ∙ sym (bytes_six c.args.arrival))
-    (c.copy-from-slice-3.ensures.after ∙ ap six c.to-be-bytes-3.ensures ∙ sym (bytes_six c.args.deadline))
-    (c.copy-from-slice-4.ensures.after ∙ c.to-be-bytes-4.ensures)
-    c.copy-from-slice-5.ensures.after
+    (c.copy_from_slice.ensures.after ∙ c.to_be_bytes.ensures)
+    (c.copy_from_slice-2.ensures.after ∙ ap six c.to_be_bytes-2.ensures ∙ sym (bytes_six c.args.arrival))
+    (c.copy_from_slice-3.ensures.after ∙ ap six c.to_be_bytes-3.ensures ∙ sym (bytes_six c.args.deadline))
+    (c.copy_from_slice-4.ensures.after ∙ c.to_be_bytes-4.ensures)
+    c.copy_from_slice-5.ensures.after

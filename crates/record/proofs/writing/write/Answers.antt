@@ -6,11 +6,11 @@ pub returns : goal.returns
 returns c =
     let x = content_of c.args.entry.now in
     let s = c.args.out.now in
-    let made = c.in-ok-bytes.ensures.said in
-    let room = c.if-out-lt-RECORD-LEN.false in
-    let put = c.copy-from-slice.ensures.after in
+    let made = c.in_ok-bytes.ensures.said in
+    let room = c.if-out-lt-RECORD_LEN.false in
+    let put = c.copy_from_slice.ensures.after in
     record {
-      said = write_accepts x s c.in-ok-bytes.bytes made room;
-      written = write_fills x s c.in-ok-bytes.bytes made room c.copy-from-slice.new.self put;
-      back = λ ok. write_reads x s c.in-ok-bytes.bytes made room c.copy-from-slice.new.self put c.in-ok-bytes.ensures.sized;
+      said = write_accepts x s c.in_ok-bytes.bytes made room;
+      written = write_fills x s c.in_ok-bytes.bytes made room c.copy_from_slice.new.self put;
+      back = λ ok. write_reads x s c.in_ok-bytes.bytes made room c.copy_from_slice.new.self put c.in_ok-bytes.ensures.sized;
     }

@@ -24,7 +24,7 @@ loop-line-preserved g c =
           λ plain.
               let before = inv.1.1.1 plain in
               has_written_of_eq g.W.Write.write_str_gives c.args.f.now (front s k ++ line_text (Some e)) (front s (k + 1)) c.writeln.new.self text
-              (has_written_append g.W.Write.write_str_gives c.args.f.now (front s k) c.loop-line.f (line_text (Some e)) c.writeln.new.self before (c.in-ok-writeln.ensures.shows before.plain refl)),
+              (has_written_append g.W.Write.write_str_gives c.args.f.now (front s k) c.loop-line.f (line_text (Some e)) c.writeln.new.self before (c.in_ok-writeln.ensures.writes before.plain refl)),
         ),
       ),
     )
@@ -34,5 +34,5 @@ returns-clause-writes g c plain ok =
     let s = c.args.self.now.input.now in
     let inv = c.loop-line.invariant in
     let k = inv.1.0 in
-    let done = finished (run_of c.loop-line.bench) k inv.1.1.0 (sym c.in-default.ensures.said) in
+    let done = finished (run_of c.loop-line.bench) k inv.1.1.0 (sym c.in_default.ensures.said) in
     has_written_of_eq g.W.Write.write_str_gives c.args.f.now (front s k) _ c.loop-line.f (ap (front s) (done ∙ ap records inv.0)) (inv.1.1.1 plain)
