@@ -165,8 +165,8 @@ fn only_the_last_spaces_go(rt: HostRuntime) -> Result<(), Fail> {
 
 #[test]
 fn a_blank_label_shows_the_default(rt: HostRuntime) {
-    assert_eq!(rt; shown(b"", b"house"), b"house");
-    assert_eq!(rt; shown(b"x", b"house"), b"x");
-    assert_eq!(rt; shown(b" x", b"house"), b" x");
-    assert_eq!(rt; shown(b"", b""), b"");
+    assert_eq!(rt; shown(b"", b"house"), b"house".as_slice());
+    assert_eq!(rt; shown(b"x", b"house"), b"x".as_slice());
+    assert_eq!(rt; shown(b" x", b"house"), b" x".as_slice());
+    assert_eq!(rt; shown(b"", b""), b"".as_slice());
 }

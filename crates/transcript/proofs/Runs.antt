@@ -12,7 +12,7 @@ use Rattle.layout.specs.Reading.{parsed, one, place_after}
 use Rattle.layout.proofs.Readings.{read_end, read_cut, read_whole, not_cut, stays, moves_on}
 use Rattle.transcript.specs.declared.fault.BenchFault.TheVariants.{Read}
 use Rattle.transcript.specs.Entries.{Entry, refused, read_entry, step_at, told_entry, entry_at, over_by}
-use Rattle.transcript.specs.Run.{Run, start_of, next_entry, next_run}
+use Rattle.transcript.specs.Run.{Run, next_entry, next_run}
 use Rattle.transcript.specs.Text.{line_text, records}
 use Rattle.layout.proofs.Differ.{differ}
 
