@@ -18,9 +18,9 @@ CASES = ROOT / 'crates/schedule/specs/Cases.antt'
 
 HEADER = """\
 -- Small books, and what a search through all sharings, lists and pairs finds for each. Written by tests/schedule.py.
-use mathlib.Core.List.{List, [], _∷_}
-use Rattle·schedule·specs.Demands.{job}
-use Rattle·schedule·specs.Answers.{Case}
+use Rattle.std.specs.Prelude.{List, [], ◌∷◌}
+use Rattle.schedule.specs.Demands.{job}
+use Rattle.schedule.specs.Answers.{Case}
 
 -- the cases, each with its book and what was found
 abbrev pub cases : List Case
