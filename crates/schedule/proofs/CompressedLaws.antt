@@ -1,6 +1,6 @@
 -- Compressed time from round to round.
 use Rattle.std.proofs.Common.{◌≡◌, ℕ, zero, suc, ◌+◌, ◌-◌, ◌<◌, ◌≤◌, min, Bool, true, false, cond, ◌⊎◌, List, [], ◌∷◌, length, refl, inl, inr, arith}
-use Rattle.std.specs.List.{AllByRecursion as All}
+use Rattle.std.specs.List.{AllByRecursion}
 use Rattle.std.proofs.lemmas.Bool.Decides.{nat_tests}
 use Rattle.std.proofs.lemmas.Bool.{cases_lt, cond_both}
 use Rattle.std.proofs.ByRecursion.{All-weaker}
@@ -64,11 +64,11 @@ pub live_sound : (m : ℕ) (ws : List Demand) → Live m ws → Sound m ws
 live_sound m ws live = All-weaker (λ w. (w.from < w.to) × (w.to ≤ m)) (Windowed m) (λ w holds some. holds) ws live
 
 -- the demands left are some of those before
-all_unplaced : (P : Demand → Type 0) (time : ℕ → ℕ) (p : Pair) (ds : List Demand) → All P ds → All P (unplaced time p ds)
+all_unplaced : (P : Demand → Type 0) (time : ℕ → ℕ) (p : Pair) (ds : List Demand) → AllByRecursion P ds → AllByRecursion P (unplaced time p ds)
 all_unplaced P time p [] all = tt
 all_unplaced P time p (d ∷ ds) all =
     let more = all_unplaced P time p ds all.1 in
-    cond_both (inside p.low p.high (seen time d)) (unplaced time p ds) (d ∷ unplaced time p ds) (All P) (λ _. more) (λ _. (all.0, more))
+    cond_both (inside p.low p.high (seen time d)) (unplaced time p ds) (d ∷ unplaced time p ds) (AllByRecursion P) (λ _. more) (λ _. (all.0, more))
 
 -- they have work left as before
 pub busy_unplaced : (time : ℕ → ℕ) (p : Pair) (ds : List Demand) → Busy ds → Busy (unplaced time p ds)

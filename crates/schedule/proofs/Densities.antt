@@ -1,6 +1,6 @@
 -- Work over length does not rise from round to round.
 use Rattle.std.proofs.Common.{◌≡◌, ℕ, ◌+◌, ◌*◌, ◌<◌, ◌≤◌, Bool, true, List, [], ◌∷◌, refl, inl, inr, arith}
-use Rattle.std.specs.List.{AllByRecursion as All}
+use Rattle.std.specs.List.{AllByRecursion}
 use Rattle.std.proofs.lemmas.Bool.Decides.{nat_tests}
 use Rattle.std.proofs.lemmas.Bool.{cases_lt, cases_Bool}
 use Rattle.schedule.specs.Demands.{Demand}
@@ -89,7 +89,7 @@ module _ (n : ℕ) (free : ℕ → Bool) (ds : List Demand) (p : Pair) (best : B
 -- no block of the rounds that follow is denser, and none is empty
 later_thinner : (n : ℕ) (free : ℕ → Bool) (ds : List Demand) (ps : List Pair) (w l : ℕ) → Rounds free ds ps → Live (compressed free n) (windows free ds)
     → Thinner (windows free ds) w l →
-    All (λ b. (b.load * l ≤ w * b.size) × (0 < b.size)) (blocks_of n free ds ps)
+    AllByRecursion (λ b. (b.load * l ≤ w * b.size) × (0 < b.size)) (blocks_of n free ds ps)
 later_thinner n free ds [] w l rounds live thin = tt
 later_thinner n free ds (p ∷ ps) w l rounds live thin =
     let best = rounds.1 in (
@@ -99,7 +99,7 @@ later_thinner n free ds (p ∷ ps) w l rounds live thin =
 
 -- each block is at least as dense as those after it
 pub falling : (n : ℕ) (free : ℕ → Bool) (ds : List Demand) (p : Pair) (ps : List Pair) → Rounds free ds (p ∷ ps) → Live (compressed free n) (windows free ds) →
-    All (λ b. (b.load * extent p ≤ pair_work (windows free ds) p * b.size) × (0 < b.size)) (blocks_of n (still_free free p) (unplaced (compressed free) p ds) ps)
+    AllByRecursion (λ b. (b.load * extent p ≤ pair_work (windows free ds) p * b.size) × (0 < b.size)) (blocks_of n (still_free free p) (unplaced (compressed free) p ds) ps)
 falling n free ds p ps rounds live =
     later_thinner n (still_free free p) (unplaced (compressed free) p ds) ps (pair_work (windows free ds) p) (extent p) rounds.2
     (live_after n free p rounds.1.proper ds live) (densities_fall n free ds p rounds.1 live)

@@ -1,6 +1,6 @@
 -- Compressed time: only the free ticks count.
 use Rattle.std.specs.Prelude.{ℕ, ◌<◌, ◌≤◌, Bool, true, cond, List, [], ◌∷◌}
-use Rattle.std.specs.List.{AllByRecursion as All}
+use Rattle.std.specs.List.{AllByRecursion}
 use Rattle.schedule.specs.Sums.{upto}
 use Rattle.schedule.specs.Demands.{Demand}
 
@@ -27,4 +27,4 @@ windows free ds = all_seen (compressed free) ds
 
 -- each window holds a tick, and ends by m
 abbrev pub Live : ℕ → List Demand → Type 0
-Live m ws = All (λ w. (w.from < w.to) × (w.to ≤ m)) ws
+Live m ws = AllByRecursion (λ w. (w.from < w.to) × (w.to ≤ m)) ws

@@ -1,6 +1,6 @@
 -- What critical blocks are like.
 use Rattle.std.specs.Prelude.{◌≡◌, ℕ, suc, ◌+◌, ◌*◌, ◌<◌, ◌≤◌, Bool, true, false, cond, List, [], ◌∷◌, length}
-use Rattle.std.specs.List.{AllByRecursion as All}
+use Rattle.std.specs.List.{AllByRecursion}
 use Rattle.schedule.specs.Sums.{upto}
 use Rattle.schedule.specs.Demands.{Demand, total}
 use Rattle.schedule.specs.Blocks.{Block}
@@ -22,12 +22,12 @@ pub record Shaped (n : ℕ) (b : Block) : Type 0 where
 -- each block's work over its length is at least that of all blocks after it
 abbrev pub Falling : List Block → Type 0
 Falling [] = Unit {0}
-Falling (b ∷ bs) = All (λ c. c.load * b.size ≤ b.load * c.size) bs × Falling bs
+Falling (b ∷ bs) = AllByRecursion (λ c. c.load * b.size ≤ b.load * c.size) bs × Falling bs
 
 -- no block shares a tick with those after it
 abbrev pub Apart : List Block → Type 0
 Apart [] = Unit {0}
-Apart (b ∷ bs) = ((t : ℕ) → b.has t ≡ true → All (λ c. c.has t ≡ false) bs) × Apart bs
+Apart (b ∷ bs) = ((t : ℕ) → b.has t ≡ true → AllByRecursion (λ c. c.has t ≡ false) bs) × Apart bs
 
 -- the work of all blocks
 abbrev pub loads : List Block → ℕ
@@ -36,7 +36,7 @@ loads (b ∷ bs) = b.load + loads bs
 
 -- blocks that do all the work, in ticks of their own, in falling order, and no more blocks than demands
 pub record Critical (n : ℕ) (ds : List Demand) (bs : List Block) : Type 0 where
-  pub shaped : All (Shaped n) bs
+  pub shaped : AllByRecursion (Shaped n) bs
   pub falling : Falling bs
   pub apart : Apart bs
   pub whole : loads bs ≡ total ds

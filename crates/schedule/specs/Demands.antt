@@ -1,6 +1,6 @@
 -- Demands: the open jobs, as settings see them.
 use Rattle.std.specs.Prelude.{ℕ, ◌+◌, ◌<◌, ◌≤◌, List, [], ◌∷◌}
-use Rattle.std.specs.List.{AllByRecursion as All}
+use Rattle.std.specs.List.{AllByRecursion}
 
 -- an open job seen from now: its window [from, to) in ticks from now, and its work left
 pub record Demand : Type 0 where
@@ -18,16 +18,16 @@ Windowed n d = 0 < d.units → (d.from < d.to) × (d.to ≤ n)
 
 -- every demand has its window within n ticks
 abbrev pub Sound : ℕ → List Demand → Type 0
-Sound n ds = All (Windowed n) ds
+Sound n ds = AllByRecursion (Windowed n) ds
 
 -- every demand has work left
 abbrev pub Busy : List Demand → Type 0
-Busy ds = All (λ d. 0 < d.units) ds
+Busy ds = AllByRecursion (λ d. 0 < d.units) ds
 
 -- an order of serving: by deadline, and in any order among equal deadlines
 abbrev pub Sorted : List Demand → Type 0
 Sorted [] = Unit {0}
-Sorted (d ∷ ds) = All (λ e. d.to ≤ e.to) ds × Sorted ds
+Sorted (d ∷ ds) = AllByRecursion (λ e. d.to ≤ e.to) ds × Sorted ds
 
 -- all the work left
 abbrev pub total : List Demand → ℕ
