@@ -17,6 +17,8 @@
 //! ```
 //!
 //! A put and a take look at no more elements than twice the levels of the tree, and nothing is taken from a heap of memory.
+#![tactic(auto)]
+
 mod fault;
 mod heap;
 mod order;

@@ -1,5 +1,7 @@
 //! Tests of the queue: its order against a sort and a plain list, its slots at their edges, what its refusal tells, and an element type of
 //! another crate.
+#![tactic(auto)]
+
 #[cfg(test)]
 mod order;
 #[cfg(test)]
