@@ -1,7 +1,7 @@
 -- An element x on its way through the slots s, of which n are filled: the place i is free for it, and it moves on to the
 -- place j, whose element moves to i.
 use Rattle.std.proofs.Common.{◌≡◌, ℕ, ◌+◌, ◌-◌, ◌/◌, ◌<◌, ◌≤◌, Bool, true, false, ◌≢◌, List, length, get_or, take, set, sym, refl, ap, ◌∙◌, arith}
-use lib.Seq.{take-set-lt}
+use Rattle.std.proofs.Math.Seq.{take-set-lt}
 use Rattle.std.specs.Cmp.{IsStrictWeakOrder}
 use Rattle.std.specs.List.Sorted.{IsPermutation}
 use Rattle.std.proofs.lemmas.List.{length-set, length-take-le, get_or-take, get_or_default, get_or-set_same, get_or-set_other, set-set}

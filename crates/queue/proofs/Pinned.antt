@@ -14,13 +14,13 @@ use Rattle.queue.specs.Says.{Removed, NoTies, least}
 module _ {X : Type 0} {before : X → X → Bool} (same : X → X → Bool) (one : (x y : X) → JustOne (before x y) (same x y) (before y x)) (o : IsStrictWeakOrder before) where
   -- two elements that none is before stand at one place
   not_later : (xs : List X) (i j : ℕ) (d : X) → i < j → j < length xs → NoTies same xs → before (get_or xs i d) (get_or xs j d) ≡ false → before (get_or xs j d) (get_or xs i d) ≡ false → ⊥
-  not_later xs i j d ij jl apart no-ij no-ji = let a = apart i j d ij jl in let b = one (get_or xs i d) (get_or xs j d) in let z : ◌≡◌ {A = ℕ} 0 1 = grind (arith, nat_tests) in omega arith
+  not_later xs i j d ij jl apart no_ij no_ji = let a = apart i j d ij jl in let b = one (get_or xs i d) (get_or xs j d) in let z : ◌≡◌ {A = ℕ} 0 1 = grind (arith, nat_tests) in omega arith
 
   one_place : (xs : List X) (i j : ℕ) (d : X) → i < length xs → j < length xs → NoTies same xs → before (get_or xs i d) (get_or xs j d) ≡ false → before (get_or xs j d) (get_or xs i d) ≡ false → i ≡ j
-  one_place xs i j d il jl apart no-ij no-ji = elim (cases_lt i j) [
-    | inl less ↦ absurd (not_later xs i j d less jl apart no-ij no-ji)
+  one_place xs i j d il jl apart no_ij no_ji = elim (cases_lt i j) [
+    | inl less ↦ absurd (not_later xs i j d less jl apart no_ij no_ji)
     | inr le ↦ elim (cases_lt j i) [
-      | inl more ↦ absurd (not_later xs j i d more il apart no-ji no-ij)
+      | inl more ↦ absurd (not_later xs j i d more il apart no_ji no_ij)
       | inr ge ↦ omega arith
     ]
   ]

@@ -24,10 +24,10 @@ module _ {X : Type 0} {before same : X → X → Bool}
 
   chain : (x y z : X) → before x y ≡ false → before y z ≡ false → before x z ≡ false
   chain x y z xy yz = elim (cases_Bool (before y x)) [
-    | inl yx ↦ elim (cases_Bool (before x z)) [ inl xz ↦ absurd (clash (ordered y x z yx xz) yz) | inr no-xz ↦ no-xz ]
-    | inr no-yx ↦ elim (cases_Bool (before z y)) [
-      | inl zy ↦ elim (cases_Bool (before x z)) [ inl xz ↦ absurd (clash (ordered x z y xz zy) xy) | inr no-xz ↦ no-xz ]
-      | inr no-zy ↦ not_level x z (tied x y z (level x y xy no-yx) (level y z yz no-zy))
+    | inl yx ↦ elim (cases_Bool (before x z)) [ inl xz ↦ absurd (clash (ordered y x z yx xz) yz) | inr no_xz ↦ no_xz ]
+    | inr no_yx ↦ elim (cases_Bool (before z y)) [
+      | inl zy ↦ elim (cases_Bool (before x z)) [ inl xz ↦ absurd (clash (ordered x z y xz zy) xy) | inr no_xz ↦ no_xz ]
+      | inr no_zy ↦ not_level x z (tied x y z (level x y xy no_yx) (level y z yz no_zy))
     ]
   ]
 

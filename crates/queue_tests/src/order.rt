@@ -1,5 +1,6 @@
 // Whatever goes in, in whatever order, comes out sorted.
 use queue::{LoadedTick, ReadyJob, ReadyQueue, TickQueue};
+use std::alloc::Global;
 use std::process::Abort;
 use std::test::Fail;
 
@@ -9,7 +10,7 @@ fn next(r: u32) -> u32 {
 }
 
 // `count` ticks with few different units go in, and come out as a sort of their pairs has them.
-fn check_sorted(rt: &impl Abort, count: usize, seed: u32) -> Result<(), Fail> {
+fn check_sorted(rt: &impl Abort, alloc: Global, count: usize, seed: u32) -> Result<(), Fail> {
     assert!(rt; count <= 64);
     let mut slots = [LoadedTick { units: 0, tick: 0 }; 64];
     let mut queue = TickQueue::new(&mut slots);
@@ -22,7 +23,7 @@ fn check_sorted(rt: &impl Abort, count: usize, seed: u32) -> Result<(), Fail> {
         assert_eq!(rt; queue.put(LoadedTick { units, tick }), Ok(()));
         pairs[i] = (units, tick);
     }
-    (&mut pairs[0..count]).sort();
+    (&mut pairs[0..count]).sort(alloc)?;
     for i in 0..count {
         let (units, tick) = pairs[i];
         assert_eq!(rt; queue.take(), Some(LoadedTick { units, tick }));
@@ -35,7 +36,7 @@ fn check_sorted(rt: &impl Abort, count: usize, seed: u32) -> Result<(), Fail> {
 fn ticks_come_out_sorted(rt: HostRuntime) -> Result<(), Fail> {
     for count in 0..65usize {
         for seed in 0..20u32 {
-            check_sorted(&rt, count, seed)?;
+            check_sorted(&rt, rt.alloc(), count, seed)?;
         }
     }
     Ok(())

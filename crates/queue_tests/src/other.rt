@@ -11,7 +11,7 @@ struct Brightness(u8);
 impl Rank for Brightness {
     ghost before = { λ x y. nat_lt y.0 x.0 };
 
-    ghost same = { λ x y. (x.0 == y.0) };
+    ghost same = { λ x y. x.0 == y.0 };
 
     ghost one = { Prim.search rules };
 
