@@ -1,7 +1,7 @@
 -- Where no two elements have the same rank, just one has none before it.
 use Rattle.std.proofs.Common.{◌≡◌, ℕ, ◌<◌, Bool, false, List, [], ◌∷◌, length, get_or, Some, sym, refl, ap, ◌∙◌, inl, inr, arith}
 use Rattle.std.specs.Cmp.{IsStrictWeakOrder}
-use Rattle.std.specs.List.{ContainsAt as Has, AllByRecursion as All}
+use Rattle.std.specs.List.{ContainsAt, AllByRecursion}
 use Rattle.std.proofs.lemmas.List.MinMax.{IsFirstBest-from_best_of}
 use Rattle.std.proofs.ByRecursion.{All-get_or, has_shuffled}
 use Rattle.std.proofs.lemmas.List.Sorted.{IsPermutation-sym}
@@ -25,7 +25,7 @@ module _ {X : Type 0} {before : X → X → Bool} (same : X → X → Bool) (one
     ]
   ]
 
-  is_least : (xs : List X) (x : X) → Has xs x → All (λ y. before y x ≡ false) xs → NoTies same xs → Some x ≡ least before xs
+  is_least : (xs : List X) (x : X) → ContainsAt xs x → AllByRecursion (λ y. before y x ≡ false) xs → NoTies same xs → Some x ≡ least before xs
   is_least [] x has none apart = absurd (omega (arith, has.1))
   is_least (a ∷ rest) x has none apart =
       let xs = a ∷ rest in

@@ -1,6 +1,6 @@
 -- What a put and a take answer, and what is held afterwards.
 use Rattle.std.specs.Prelude.{◌≡◌, ℕ, ◌+◌, ◌<◌, Bool, true, false, cond, List, [], ◌∷◌, length, Some, None, Ok, Err, MatchBool, Option, Result, nat_lt, slice_index_or}
-use Rattle.std.specs.List.{best_of, AllByRecursion as All}
+use Rattle.std.specs.List.{best_of, AllByRecursion}
 use Rattle.std.specs.List.Sorted.{IsPermutation}
 use Rattle.queue.specs.declared.fault.QueueFault.{QueueFault}
 use Rattle.queue.specs.declared.fault.QueueFault.TheVariants.{Full}
@@ -18,7 +18,7 @@ pub record Removed {X : Type 0} (before : X → X → Bool) (x : X) (q r : Slots
   pub slots : length r.places ≡ length q.places
   pub count : q.count ≡ r.count + 1
   pub holds : IsPermutation (held q) (x ∷ held r)
-  pub least : All (λ y. before y x ≡ false) (held q)
+  pub least : AllByRecursion (λ y. before y x ≡ false) (held q)
 
 -- whether a slot is free
 abbrev pub has_room : {X : Type 0} → Slots X → Bool
