@@ -1,4 +1,4 @@
-use Rattle.std.proofs.Common.{◌≡◌, ℕ, ◌+◌, ◌*◌, List, ◌++◌, Some, sym, refl, ap, ◌∙◌, subst}
+use Rattle.std.proofs.Common.{◌≡◌, ℕ, ◌+◌, ◌*◌, true, List, ◌++◌, Some, sym, refl, ap, ◌∙◌, subst}
 use Rattle.std.proofs.Output.{has_written_append, has_written_of_eq}
 use Rattle.transcript.specs.Entries.{entry_of, entry_at}
 use Rattle.transcript.specs.Run.{Run, run_of}
@@ -24,7 +24,7 @@ loop-line-preserved g c =
           λ plain.
               let before = inv.1.1.1 plain in
               has_written_of_eq g.W.Write.write_str_gives c.args.f.now (front s k ++ line_text (Some e)) (front s (k + 1)) c.writeln.new.self text
-              (has_written_append g.W.Write.write_str_gives c.args.f.now (front s k) c.loop-line.f (line_text (Some e)) c.writeln.new.self before (c.in_ok-writeln.ensures.writes before.plain refl)),
+              (has_written_append g.W.Write.write_str_gives c.args.f.now (front s k) c.loop-line.f (line_text (Some e)) c.writeln.new.self before (c.in_ok-writeln.ensures.writes before.plain (refl {a = true}))),
         ),
       ),
     )
