@@ -1,1 +1,3 @@
+pub mod Breaking
+pub mod CubeLaws
 pub mod Numbers

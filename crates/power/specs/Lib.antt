@@ -5,4 +5,3 @@ pub mod Breaks
 pub mod Loading
 pub mod Cubes
 pub mod CubeLaws
-pub mod Breaking

@@ -3,8 +3,7 @@ ghost use Rattle.std.specs.Prelude.{◌≡◌, ◌*◌, ◌≤◌};
 ghost use Rattle.std.specs.Result.{result_map_both};
 ghost use Rattle.power.specs.Draws.{cube, cube_draw};
 ghost use Rattle.power.specs.Cubes.{new_cube};
-ghost use Rattle.std.proofs.Common.{arith};
-ghost use Rattle.power.specs.CubeLaws;
+ghost use Rattle.power.specs.CubeLaws.{draw_bounded, rising, convex};
 
 use super::cubes::cubed;
 use super::fault::{CubeField, PowerFault};
@@ -46,11 +45,11 @@ impl Cube {
 impl PowerModel for Cube {
     ghost draws = { λ m. cube_draw m.fixed m.factor };
 
-    ghost bounded = { λ m s h. let b = CubeLaws.bounded m.factor s m.fits.1 h in let p = m.fits.0 in omega arith };
+    ghost bounded = { λ m. draw_bounded m.fixed m.factor m.fits };
 
-    ghost rising = { λ m. CubeLaws.rising m.fixed m.factor };
+    ghost rising = { λ m. rising m.fixed m.factor };
 
-    ghost convex = { λ m. CubeLaws.convex m.fixed m.factor };
+    ghost convex = { λ m. convex m.fixed m.factor };
 
     fn draw(&self, setting: u8) -> u32 {
         self.fixed + varying(self.factor, setting)

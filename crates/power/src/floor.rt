@@ -1,7 +1,7 @@
 // A model over another, whose clock is never set below a floor.
 ghost use Rattle.std.specs.Prelude.{◌≡◌, ◌≤◌};
 ghost use Rattle.power.specs.Draws.{floor_draw};
-ghost use Rattle.std.proofs.Common.{rules, arith};
+ghost use Rattle.std.proofs.Common.{rules};
 
 use super::model::PowerModel;
 
@@ -26,11 +26,11 @@ impl<M> Floor<M> {
 impl<M: PowerModel> PowerModel for Floor<M> {
     ghost draws = { λ m. floor_draw (M.PowerModel.draws m.lower) m.floor };
 
-    ghost bounded = { first_of (Prim.search rules, Prim.grind (arith, Self.row.coded.inj)) };
+    ghost bounded = { Prim.search rules };
 
-    ghost rising = { first_of (Prim.search rules, Prim.grind (arith, Self.row.coded.inj)) };
+    ghost rising = { Prim.search rules };
 
-    ghost convex = { first_of (Prim.search rules, Prim.grind (arith, Self.row.coded.inj)) };
+    ghost convex = { Prim.search rules };
 
     fn draw(&self, setting: u8) -> u32 {
         self.lower.draw(setting.max(self.floor))

@@ -10,6 +10,8 @@
 //! | [`Floor`] | that of the lower model at the greater of s and the floor |
 //!
 //! The laws are those of the trait [`PowerModel`], so whatever is generic over a model has them.
+#![tactic(auto)]
+
 mod cube;
 mod cubes;
 mod fault;

@@ -4,7 +4,6 @@ ghost use Rattle.power.specs.Laws.{Rising, Convex};
 ghost use Rattle.power.specs.Draws.{draw_at};
 ghost use Rattle.power.specs.Breaks.{breaks_at, Found};
 ghost use Rattle.power.specs.Loading.{list_draw, load_answer, loaded, Loadable, Accepts, NamesLeast};
-ghost use Rattle.std.proofs.Common.{rules, arith};
 
 use super::fault::PowerFault;
 use super::model::{PowerModel, SETTINGS};
@@ -97,11 +96,11 @@ impl Measured {
 impl PowerModel for Measured {
     ghost draws = { λ m. draw_at m.numbers };
 
-    ghost bounded = { first_of (Prim.search rules, Prim.grind (arith, Self.row.coded.inj)) };
+    ghost bounded = { λ m. m.bounded };
 
-    ghost rising = { first_of (Prim.search rules, Prim.grind (arith, Self.row.coded.inj)) };
+    ghost rising = { λ m. m.rising };
 
-    ghost convex = { first_of (Prim.search rules, Prim.grind (arith, Self.row.coded.inj)) };
+    ghost convex = { λ m. m.convex };
 
     fn draw(&self, setting: u8) -> u32 {
         self.numbers[setting as usize]

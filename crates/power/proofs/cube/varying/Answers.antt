@@ -2,8 +2,8 @@ use Rattle.std.proofs.Common.{rules}
 use Rattle.power.specs.CubeLaws.{bounded}
 use Rattle.power.proofs.cube.varying.Goals as goal
 
-pub overflow-mul-result : goal.overflow-mul-result
-overflow-mul-result c =
+pub overflow_mul-result : goal.overflow_mul-result
+overflow_mul-result c =
     let b = bounded c.args.factor c.args.setting (search rules) (search rules) in
     rw c.cubed.ensures.is (search rules)
 
