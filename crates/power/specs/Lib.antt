@@ -5,3 +5,4 @@ pub mod Breaks
 pub mod Loading
 pub mod Cubes
 pub mod CubeLaws
+pub mod FloorLaws

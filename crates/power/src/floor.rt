@@ -1,7 +1,7 @@
 // A model over another, whose clock is never set below a floor.
 ghost use Rattle.std.specs.Prelude.{◌≡◌, ◌≤◌};
 ghost use Rattle.power.specs.Draws.{floor_draw};
-ghost use Rattle.std.proofs.Common.{rules};
+ghost use Rattle.power.specs.FloorLaws.{floor_bounded, floor_rising, floor_convex};
 
 use super::model::PowerModel;
 
@@ -24,13 +24,13 @@ impl<M> Floor<M> {
 }
 
 impl<M: PowerModel> PowerModel for Floor<M> {
-    ghost draws = { λ m. floor_draw (M.PowerModel.draws m.lower) m.floor };
+    ghost draws = { λ m. floor_draw (M.draws m.lower) m.floor };
 
-    ghost bounded = { Prim.search rules };
+    ghost bounded = { λ m. floor_bounded (M.draws m.lower) m.floor m.fits (M.bounded m.lower) };
 
-    ghost rising = { Prim.search rules };
+    ghost rising = { λ m. floor_rising (M.draws m.lower) m.floor (M.rising m.lower) };
 
-    ghost convex = { Prim.search rules };
+    ghost convex = { λ m. floor_convex (M.draws m.lower) m.floor (M.rising m.lower) (M.convex m.lower) };
 
     fn draw(&self, setting: u8) -> u32 {
         self.lower.draw(setting.max(self.floor))
