@@ -39,6 +39,7 @@ some_from D s (suc n) j h l e none =
 
 -- what a search finds is the least setting at which a law breaks
 pub found_is : (D : ℕ → ℕ) (o : Option ℕ) → Found D o → first_break D ≡ o
+unfolding first_break
 found_is D None f = none_from D 1 255 (λ k h l. f k h (omega arith))
 found_is D (Some s) f = some_from D 1 255 s f.0 (omega arith) f.2 f.3
 

@@ -16,7 +16,7 @@ break_from D s zero = None
 break_from D s (suc n) = cond (breaks_at D s) (Some s) (break_from D (s + 1) n)
 
 -- the least setting at which a law breaks: no law speaks of 0
-abbrev pub first_break : (ℕ → ℕ) → Option ℕ
+unfoldable pub first_break : (ℕ → ℕ) → Option ℕ
 first_break D = break_from D 1 255
 
 -- what a search through the settings 1 to 255 finds: no break, or a break with none before it

@@ -1,4 +1,6 @@
 //! Tests of the power models and of what is told of their faults.
+#![tactic(auto)]
+
 #[cfg(test)]
 mod cube;
 #[cfg(test)]
