@@ -9,7 +9,7 @@ step_up : (a b c : ℕ) → b ≡ c + 1 → a ≡ c + 2 → 2 * cube b ≤ cube 
 step_up a b c p q = rw (p, q) (omega arith)
 
 -- the cubes keep the laws
-pub cubes_lawful : Lawful 255 cube
+cubes_lawful : Lawful 255 cube
 cubes_lawful = (
   λ s h k. let m : s - 1 ≤ s = omega arith in mul-le-mul (mul-le-mul m m) m,
   λ s h k. step_up s (s - 1) (s - 2) (omega arith) (omega arith),
