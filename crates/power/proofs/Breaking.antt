@@ -6,13 +6,6 @@ use Rattle.std.proofs.lemmas.Bool.Decides.{nat_tests}
 use Rattle.power.specs.Laws.{Lawful}
 use Rattle.power.specs.Breaks.{breaks_at, break_from, first_break, Found}
 
--- draws that break no law up to `last` keep both
-pub keeps : (D : ℕ → ℕ) (last : ℕ) → ((k : ℕ) → 1 ≤ k → k ≤ last → breaks_at D k ≡ false) → Lawful last D
-keeps D last none = (
-  λ s h k. let e = none s h k in grind (arith, nat_tests),
-  λ s h k. let e = none s (omega arith) k in grind (arith, nat_tests),
-)
-
 -- draws that break a law at s do not keep both up to s
 pub breaks : (D : ℕ → ℕ) (s : ℕ) → 1 ≤ s → breaks_at D s ≡ true → Lawful s D → ⊥
 breaks D s h e l = let rises = l.0 s h (omega arith) in grind (arith, nat_tests)

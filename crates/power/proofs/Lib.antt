@@ -1,3 +1,2 @@
 pub mod Breaking
-pub mod CubeLaws
 pub mod Numbers

@@ -1,19 +1,43 @@
--- The laws of the cubes, and of the draws that follow them.
-use Rattle.std.specs.Prelude.{◌≡◌, ℕ, ◌+◌, ◌-◌, ◌*◌, ◌≤◌}
-use Rattle.std.proofs.Common.{arith, mul-add, mul-le-mul, mul-le-mul_left}
+-- The laws of the cubes, from the tests over the whole table.
+use Rattle.std.specs.Prelude.{◌≡◌, ℕ, zero, suc, ◌-◌, ◌*◌, ◌<◌, ◌≤◌, false, List, refl}
+use Rattle.std.proofs.Common.{ap, ◌∙◌, ⊎_elim, arith, mul-add, mul-le-mul, mul-le-mul_left}
+use Rattle.std.proofs.lemmas.Bool.{or_parts, cases_eq}
+use Rattle.std.proofs.lemmas.List.FromFn.{get_or-map-range_with_len}
 use Rattle.power.specs.Laws.{Rising, Convex, Lawful}
-use Rattle.power.specs.Draws.{cube, cube_draw}
+use Rattle.power.specs.Draws.{draw_at, cube, cube_draw}
+use Rattle.power.specs.Breaks.{breaks_at, breaks_below}
+use Rattle.power.specs.BreakLaws.{keeps}
+use Rattle.power.specs.Cubes.{cube_table}
 
--- a step up adds at least as much as the step before it
-step_up : (a b c : ℕ) → b ≡ c + 1 → a ≡ c + 2 → 2 * cube b ≤ cube a + cube c
-step_up a b c p q = rw (p, q) (omega arith)
+-- a test over all settings below n is the test at each of them
+at : (D : ℕ → ℕ) (n : ℕ) → breaks_below D n ≡ false → (k : ℕ) → k < n → breaks_at D k ≡ false
+at D zero e k h = absurd (omega arith)
+at D (suc n) e k h =
+    let p = or_parts (breaks_at D n) (breaks_below D n) e in
+    ⊎_elim (λ same. ap (breaks_at D) same ∙ p.0) (λ apart. at D n p.1 k (omega arith)) (cases_eq k n)
 
--- the cubes keep the laws
+-- the rule at each entry: that of a setting is its cube
+pub entry : (t : List ℕ) → t ≡ cube_table → (s : ℕ) → s ≤ 255 → draw_at t s ≡ cube s
+entry t rule s h = ap (λ u. draw_at u s) rule ∙ get_or-map-range_with_len cube 0 256 s s 0 (omega arith) (omega arith)
+
+-- the laws at each entry: the cubes keep them as the table does
+pub lawful : (t : List ℕ) → t ≡ cube_table → breaks_below (draw_at t) 256 ≡ false → Lawful 255 cube
+lawful t rule none =
+    let table : Lawful 255 (draw_at t) = keeps (draw_at t) 255 (λ k h l. at (draw_at t) 256 none k (omega arith)) in (
+      λ s h k.
+          let a = entry t rule s k in
+          let b = entry t rule (s - 1) (omega arith) in
+          rw (← a, ← b) (table.0 s h k),
+      λ s h k.
+          let a = entry t rule s k in
+          let b = entry t rule (s - 1) (omega arith) in
+          let c = entry t rule (s - 2) (omega arith) in
+          rw (← a, ← b, ← c) (table.1 s h k),
+    )
+
+-- the test is computed once, over the whole table
 cubes_lawful : Lawful 255 cube
-cubes_lawful = (
-  λ s h k. let m : s - 1 ≤ s = omega arith in mul-le-mul (mul-le-mul m m) m,
-  λ s h k. step_up s (s - 1) (s - 2) (omega arith) (omega arith),
-)
+cubes_lawful = lawful cube_table refl refl
 
 pub rising : (fixed factor : ℕ) → Rising 255 (cube_draw fixed factor)
 rising p c s h k = let m = mul-le-mul_left c (cubes_lawful.0 s h k) in omega arith

@@ -4,5 +4,6 @@ pub mod Draws
 pub mod Breaks
 pub mod Loading
 pub mod Cubes
+pub mod BreakLaws
 pub mod CubeLaws
 pub mod FloorLaws

@@ -1,5 +1,5 @@
 use Rattle.std.proofs.Common.{rules}
-use Rattle.power.proofs.CubeLaws.{entry, lawful}
+use Rattle.power.specs.CubeLaws.{entry, lawful}
 use Rattle.power.proofs.cubes.cubed.Goals as goal
 
 pub returns : goal.returns

@@ -1,7 +1,8 @@
 use Rattle.std.proofs.Common.{length, Some, None, sym, ap, arith, rules}
 use Rattle.std.proofs.lemmas.Bool.{cond_above}
 use Rattle.power.specs.Loading.{list_draw, broken_at}
-use Rattle.power.proofs.Breaking.{keeps, breaks, found_is, shorter}
+use Rattle.power.specs.BreakLaws.{keeps}
+use Rattle.power.proofs.Breaking.{breaks, found_is, shorter}
 use Rattle.power.proofs.measured.check_draws.Goals as goal
 
 pub returns-then-list-lt-SETTINGS : goal.returns-then-list-lt-SETTINGS
