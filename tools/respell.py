@@ -5,7 +5,9 @@ A definition, a lemma, a field and a variable are in snake case: `placeAfter` be
 `work_sum`. A dash stays where it joins the names of two definitions, as in `length-encoded`. Types, facts and modules
 keep their camel case. Names of the code, of the library and of the goals that the checker makes are left as they are.
 
-usage: tools/respell.py            at the top of the repository, once: rewrites crates/ and the names in docs
+usage: tools/respell.py            at the top of the repository, once, after the toolchain's script: rewrites crates/, must-fail
+                                   edits included, and the names in README.md and docs/
+       tools/respell.py --list     what would be turned
 """
 import collections
 import glob
@@ -77,10 +79,11 @@ def imported(text, crates):
 def snake(name):
     if name in BY_HAND:
         return BY_HAND[name]
-    for mark, plain in (("inForce-", "in_force_"), ("?-", "-")):
-        if mark in name:
-            head = name.split(mark)[0]
-            name = BY_HAND.get(head + "?", head) + "_" + name.split(mark)[1] if mark == "?-" else plain + name.split(mark)[1]
+    if name.startswith("inForce-"):
+        name = "in_force_" + name[len("inForce-") :]
+    test, mark, rest = name.partition("?-")
+    if mark:
+        name = BY_HAND[test + "?"] + "_" + rest
     name = re.sub(r"(?<=[a-z0-9])([A-Z])(?=[a-z])", lambda m: "_" + m.group(1).lower(), name)
     return name.replace("-", "_")
 

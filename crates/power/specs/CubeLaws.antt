@@ -39,20 +39,20 @@ lawful t rule none =
 cubes_lawful : Lawful 255 cube
 cubes_lawful = lawful cube_table refl refl
 
-pub rising : (fixed factor : ℕ) → Rising 255 (cube_draw fixed factor)
-rising p c s h k = let m = mul-le-mul_left c (cubes_lawful.0 s h k) in omega arith
+pub cube_rising : (fixed factor : ℕ) → Rising 255 (cube_draw fixed factor)
+cube_rising p c s h k = let m = mul-le-mul_left c (cubes_lawful.0 s h k) in omega arith
 
-pub convex : (fixed factor : ℕ) → Convex 255 (cube_draw fixed factor)
-convex p c s h k =
+pub cube_convex : (fixed factor : ℕ) → Convex 255 (cube_draw fixed factor)
+cube_convex p c s h k =
     let m = mul-le-mul_left c (cubes_lawful.1 s h k) in
     let a = mul-add c (cube s) (cube (s - 2)) in
     let b = mul-add c (cube (s - 1)) (cube (s - 1)) in
     omega arith
 
 -- no draw above the fixed one is greater than that of the greatest factor and setting
-pub bounded : (factor s : ℕ) → factor ≤ 255 → s ≤ 255 → factor * cube s ≤ 4228250625
-bounded c s h k = mul-le-mul h (mul-le-mul (mul-le-mul k k) k)
+pub cube_bounded : (factor s : ℕ) → factor ≤ 255 → s ≤ 255 → factor * cube s ≤ 4228250625
+cube_bounded c s h k = mul-le-mul h (mul-le-mul (mul-le-mul k k) k)
 
 -- so every draw is a 32-bit number
-pub draw_bounded : (fixed factor : ℕ) → (fixed ≤ 66000000) × (factor ≤ 255) → (s : ℕ) → s ≤ 255 → cube_draw fixed factor s ≤ 4294967295
-draw_bounded p c fits s h = let b = bounded c s fits.1 h in let q = fits.0 in omega arith
+pub cube_draw_bounded : (fixed factor : ℕ) → (fixed ≤ 66000000) × (factor ≤ 255) → (s : ℕ) → s ≤ 255 → cube_draw fixed factor s ≤ 4294967295
+cube_draw_bounded p c fits s h = let b = cube_bounded c s fits.1 h in let q = fits.0 in omega arith

@@ -3,7 +3,7 @@ ghost use Rattle.std.specs.Prelude.{◌≡◌, ◌*◌, ◌≤◌};
 ghost use Rattle.std.specs.Result.{result_map_both};
 ghost use Rattle.power.specs.Draws.{cube, cube_draw};
 ghost use Rattle.power.specs.Cubes.{new_cube};
-ghost use Rattle.power.specs.CubeLaws.{draw_bounded, rising, convex};
+ghost use Rattle.power.specs.CubeLaws.{cube_draw_bounded, cube_rising, cube_convex};
 
 use super::cubes::cubed;
 use super::fault::{CubeField, PowerFault};
@@ -45,11 +45,11 @@ impl Cube {
 impl PowerModel for Cube {
     ghost draws = { λ m. cube_draw m.fixed m.factor };
 
-    ghost bounded = { λ m. draw_bounded m.fixed m.factor m.fits };
+    ghost bounded = { λ m. cube_draw_bounded m.fixed m.factor m.fits };
 
-    ghost rising = { λ m. rising m.fixed m.factor };
+    ghost rising = { λ m. cube_rising m.fixed m.factor };
 
-    ghost convex = { λ m. convex m.fixed m.factor };
+    ghost convex = { λ m. cube_convex m.fixed m.factor };
 
     fn draw(&self, setting: u8) -> u32 {
         self.fixed + varying(self.factor, setting)

@@ -15,7 +15,7 @@ fn check_draw(rt: &impl Abort, fixed: u32, factor: u8, setting: u8, want: u32) -
         Ok(model) => {
             assert_eq!(rt; model.draw(setting), want);
             Ok(())
-        },
+        }
         Err(_) => Err(Fail::new("no model was made")),
     }
 }

@@ -13,7 +13,7 @@ fn check_floored(rt: &impl Abort, floor: u8, setting: u8, want: u32) -> Result<(
         Ok(draw) => {
             assert_eq!(rt; draw, want);
             Ok(())
-        },
+        }
         Err(_) => Err(Fail::new("no model was made")),
     }
 }
@@ -41,7 +41,7 @@ fn check_twice(rt: &impl Abort, outer: u8, inner: u8, setting: u8, want: u32) ->
         Ok(draw) => {
             assert_eq!(rt; draw, want);
             Ok(())
-        },
+        }
         Err(_) => Err(Fail::new("no model was made")),
     }
 }

@@ -9,8 +9,8 @@ use super::order::Rank;
 /// A priority queue in slots that the caller lends, for elements of any type with a total order.
 ///
 /// A put and a take go through at most as many levels as the tree has. What `take` promises, it promises of slots that are a
-/// heap; `new` makes such slots, and `put` and `take` keep them so. The invariant of a type can't name the order of its
-/// elements' type, so `ReadyQueue` and `TickQueue` have the heap as theirs, each for its own element, and promise the same without
+/// heap; `new` makes such slots, and `put` and `take` keep them so. The invariant of this type does not name the order of its
+/// elements' type: `ReadyQueue` and `TickQueue` have the heap as theirs, each for its own element, and promise the same without
 /// a condition.
 #[derive(Drop)]
 pub struct Queue<'a, T> {
@@ -132,7 +132,7 @@ impl<'a, T: Rank> Queue<'a, T> {
         ensures said { HeapTakes T.Rank.before T.Rank.same (slots_of self.old) (slots_of self.new) result }
         ensures lender { self.new.slots.ghost_name ≡ self.old.slots.ghost_name }
     {
-        // The second test never passes: no more slots are filled than there are. The type can't say so.
+        // The second test never passes: no more slots are filled than there are. This type does not say so.
         if self.len == 0 || self.len > self.slots.len() {
             return None;
         }

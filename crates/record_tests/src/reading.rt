@@ -146,7 +146,7 @@ fn check_label(rt: &impl Abort, six: &[u8; 6], want: &[u8]) -> Result<(), Fail> 
         Ok(Some(Record::Offer { label, .. })) => {
             assert_eq!(rt; label, want);
             Ok(())
-        },
+        }
         _ => Err(Fail::new("no offer was read")),
     }
 }
