@@ -1,7 +1,8 @@
 // Why a record is not read or not written.
+ghost use Rattle.std.specs.Prelude.{◌≡◌};
 ghost use Rattle.layout.specs.Refusals.{read_refusal, write_refusal};
 
-use refusal::{Fault, Layer, Refusal, Values};
+use refusal::{Layer, Refusal};
 
 /// Why a record is not read. Places count bytes from 0 over the whole input.
 #[derive(Clone, Copy, PartialEq, Eq, Debug)]
@@ -32,35 +33,27 @@ pub enum WriteFault {
     Short { needed: usize },
 }
 
-impl Fault for ReadFault {
-    ghost told = { read_refusal };
+impl From<ReadFault> for Refusal {
+    ghost from_gives = { λ fault refusal. refusal ≡ read_refusal fault };
 
-    fn refusal(&self) -> Refusal {
-        let (number, place) = match *self {
+    fn from(fault: ReadFault) -> Refusal {
+        let (number, place) = match fault {
             ReadFault::Cut { place } => (1, place),
             ReadFault::UnknownKind { place } => (2, place),
             ReadFault::Forbidden { place } => (3, place),
         };
-        Refusal {
-            layer: Layer::Record,
-            number,
-            values: Values::One(place as u64),
-        }
+        Refusal::with_value(Layer::Record, number, place as u64)
     }
 }
 
-impl Fault for WriteFault {
-    ghost told = { write_refusal };
+impl From<WriteFault> for Refusal {
+    ghost from_gives = { λ fault refusal. refusal ≡ write_refusal fault };
 
-    fn refusal(&self) -> Refusal {
-        let (number, value) = match *self {
+    fn from(fault: WriteFault) -> Refusal {
+        let (number, value) = match fault {
             WriteFault::Field(field) => (4, field as u64),
             WriteFault::Short { needed } => (10, needed as u64),
         };
-        Refusal {
-            layer: Layer::Record,
-            number,
-            values: Values::One(value),
-        }
+        Refusal::with_value(Layer::Record, number, value)
     }
 }

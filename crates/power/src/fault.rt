@@ -1,7 +1,8 @@
 // Why a power model refuses.
+ghost use Rattle.std.specs.Prelude.{◌≡◌};
 ghost use Rattle.power.specs.Refusals.{power_refusal};
 
-use refusal::{Fault, Layer, Refusal, Values};
+use refusal::{Layer, Refusal};
 
 /// The fields of a cube model that are checked, by their numbers.
 #[derive(Clone, Copy, PartialEq, Eq, Debug)]
@@ -20,19 +21,15 @@ pub enum PowerFault {
     Broken { setting: u8 },
 }
 
-impl Fault for PowerFault {
-    ghost told = { power_refusal };
+impl From<PowerFault> for Refusal {
+    ghost from_gives = { λ fault refusal. refusal ≡ power_refusal fault };
 
-    fn refusal(&self) -> Refusal {
-        let (number, value) = match *self {
+    fn from(fault: PowerFault) -> Refusal {
+        let (number, value) = match fault {
             PowerFault::Field(field) => (5, field as u64),
             PowerFault::Short { needed } => (10, needed as u64),
             PowerFault::Broken { setting } => (12, setting as u64),
         };
-        Refusal {
-            layer: Layer::Power,
-            number,
-            values: Values::One(value),
-        }
+        Refusal::with_value(Layer::Power, number, value)
     }
 }

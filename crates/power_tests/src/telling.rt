@@ -1,5 +1,5 @@
 use power::{CubeField, PowerFault};
-use refusal::{Fault, Layer, Refusal, Values};
+use refusal::{Layer, Refusal, Values};
 use std::test::Fail;
 
 fn told(number: u8, value: u64) -> Refusal {
@@ -13,24 +13,24 @@ fn told(number: u8, value: u64) -> Refusal {
 #[test]
 fn each_fault_has_its_number_and_value(rt: HostRuntime) {
     assert_eq!(rt;
-        PowerFault::Field(CubeField::FixedDraw).refusal(),
+        Refusal::from(PowerFault::Field(CubeField::FixedDraw)),
         told(5, 7)
     );
-    assert_eq!(rt; PowerFault::Short { needed: 256 }.refusal(), told(10, 256));
-    assert_eq!(rt; PowerFault::Broken { setting: 3 }.refusal(), told(12, 3));
+    assert_eq!(rt; Refusal::from(PowerFault::Short { needed: 256 }), told(10, 256));
+    assert_eq!(rt; Refusal::from(PowerFault::Broken { setting: 3 }), told(12, 3));
     assert_eq!(rt;
-        PowerFault::Broken { setting: 255 }.refusal(),
+        Refusal::from(PowerFault::Broken { setting: 255 }),
         told(12, 255)
     );
 }
 
 #[test]
 fn each_fault_is_printed(rt: HostRuntime) -> Result<(), Fail> {
-    let field = format!(in rt.alloc(); "{}", PowerFault::Field(CubeField::FixedDraw).refusal())?;
+    let field = format!(in rt.alloc(); "{}", Refusal::from(PowerFault::Field(CubeField::FixedDraw)))?;
     assert_eq!(rt; field.as_str(), "5 7");
-    let short = format!(in rt.alloc(); "{}", PowerFault::Short { needed: 256 }.refusal())?;
+    let short = format!(in rt.alloc(); "{}", Refusal::from(PowerFault::Short { needed: 256 }))?;
     assert_eq!(rt; short.as_str(), "10 256");
-    let broken = format!(in rt.alloc(); "{}", PowerFault::Broken { setting: 3 }.refusal())?;
+    let broken = format!(in rt.alloc(); "{}", Refusal::from(PowerFault::Broken { setting: 3 }))?;
     assert_eq!(rt; broken.as_str(), "12 3");
     Ok(())
 }

@@ -1,7 +1,8 @@
 // Why an element is not added.
+ghost use Rattle.std.specs.Prelude.{◌≡◌};
 ghost use Rattle.queue.specs.Refusals.{queue_refusal};
 
-use refusal::{Fault, Layer, Refusal, Values};
+use refusal::{Layer, Refusal};
 
 /// Why an element is not added to a queue.
 #[derive(Clone, Copy, PartialEq, Eq, Debug)]
@@ -10,15 +11,11 @@ pub enum QueueFault {
     Full { needed: usize },
 }
 
-impl Fault for QueueFault {
-    ghost told = { queue_refusal };
+impl From<QueueFault> for Refusal {
+    ghost from_gives = { λ fault refusal. refusal ≡ queue_refusal fault };
 
-    fn refusal(&self) -> Refusal {
-        let QueueFault::Full { needed } = *self;
-        Refusal {
-            layer: Layer::Queue,
-            number: 10,
-            values: Values::One(needed as u64),
-        }
+    fn from(fault: QueueFault) -> Refusal {
+        let QueueFault::Full { needed } = fault;
+        Refusal::with_value(Layer::Queue, 10, needed as u64)
     }
 }

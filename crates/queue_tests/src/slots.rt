@@ -1,6 +1,6 @@
 // Full and empty queues, slots that are used again, and elements of one rank.
 use queue::{LoadedTick, QueueFault, ReadyJob, ReadyQueue, TickQueue};
-use refusal::{Fault, Layer, Refusal, Values};
+use refusal::{Layer, Refusal, Values};
 use std::process::Abort;
 use std::test::Fail;
 
@@ -82,7 +82,7 @@ fn jobs_of_one_rank_both_come(rt: HostRuntime) {
 
 #[test]
 fn the_refusal_tells_the_slots_needed(rt: HostRuntime) -> Result<(), Fail> {
-    let told = QueueFault::Full { needed: 3 }.refusal();
+    let told = Refusal::from(QueueFault::Full { needed: 3 });
     assert_eq!(rt;
         told,
         Refusal {

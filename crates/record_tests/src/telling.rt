@@ -1,5 +1,5 @@
 use layout::{ReadFault, WriteFault, WrittenField};
-use refusal::{Fault, Layer, Refusal, Values};
+use refusal::{Layer, Refusal, Values};
 use std::test::Fail;
 use transcript::BenchFault;
 
@@ -13,22 +13,22 @@ fn told(number: u8, value: u64) -> Refusal {
 
 #[test]
 fn each_fault_has_its_number_and_value(rt: HostRuntime) {
-    assert_eq!(rt; ReadFault::Cut { place: 72 }.refusal(), told(1, 72));
-    assert_eq!(rt; ReadFault::UnknownKind { place: 72 }.refusal(), told(2, 72));
-    assert_eq!(rt; ReadFault::Forbidden { place: 73 }.refusal(), told(3, 73));
+    assert_eq!(rt; Refusal::from(ReadFault::Cut { place: 72 }), told(1, 72));
+    assert_eq!(rt; Refusal::from(ReadFault::UnknownKind { place: 72 }), told(2, 72));
+    assert_eq!(rt; Refusal::from(ReadFault::Forbidden { place: 73 }), told(3, 73));
     assert_eq!(rt;
-        WriteFault::Field(WrittenField::Arrival).refusal(),
+        Refusal::from(WriteFault::Field(WrittenField::Arrival)),
         told(4, 1)
     );
     assert_eq!(rt;
-        WriteFault::Field(WrittenField::Deadline).refusal(),
+        Refusal::from(WriteFault::Field(WrittenField::Deadline)),
         told(4, 2)
     );
     assert_eq!(rt;
-        WriteFault::Field(WrittenField::Label).refusal(),
+        Refusal::from(WriteFault::Field(WrittenField::Label)),
         told(4, 3)
     );
-    assert_eq!(rt; WriteFault::Short { needed: 24 }.refusal(), told(10, 24));
+    assert_eq!(rt; Refusal::from(WriteFault::Short { needed: 24 }), told(10, 24));
 }
 
 fn passed_up(fault: ReadFault) -> Result<(), BenchFault> {
@@ -40,7 +40,7 @@ fn passed_up(fault: ReadFault) -> Result<(), BenchFault> {
 fn a_fault_passes_up_whole(rt: HostRuntime) {
     let fault = ReadFault::Forbidden { place: 73 };
     assert_eq!(rt; passed_up(fault), Err(BenchFault::Read(fault)));
-    assert_eq!(rt; BenchFault::Read(fault).refusal(), told(3, 73));
+    assert_eq!(rt; Refusal::from(BenchFault::Read(fault)), told(3, 73));
     assert!(rt; !BenchFault::Read(fault).ends_run());
     assert!(rt; !BenchFault::Read(ReadFault::UnknownKind { place: 72 }).ends_run());
     assert!(rt; BenchFault::Read(ReadFault::Cut { place: 72 }).ends_run());

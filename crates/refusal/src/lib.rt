@@ -2,8 +2,8 @@
 #![tactic(auto)]
 
 ghost use Rattle.std.specs.Prelude.{◌≡◌, Some};
-ghost use Rattle.refusal.specs.declared.Refusal.{Refusal as Told};
 ghost use Rattle.refusal.specs.Text.{refusal_text};
+ghost use Rattle.refusal.specs.Told.{refused_by};
 
 use std::fmt;
 
@@ -31,13 +31,17 @@ pub struct Refusal {
     pub values: Values,
 }
 
-/// The faults of one layer. The ghost member `told` is the one definition that gives each case its layer, number and values.
-pub trait Fault {
-    ghost told: { Self → Told };
-
-    /// What the caller is told.
-    fn refusal(&self) -> Refusal
-        ensures { result ≡ told self.now };
+impl Refusal {
+    /// The refusal of a layer with its number and one value.
+    pub fn with_value(layer: Layer, number: u8, value: u64) -> Refusal
+        ensures { result ≡ refused_by layer number value }
+    {
+        Refusal {
+            layer,
+            number,
+            values: Values::One(value),
+        }
+    }
 }
 
 impl fmt::Display for Refusal {

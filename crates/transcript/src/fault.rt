@@ -4,7 +4,7 @@ ghost use Rattle.transcript.specs.declared.fault.BenchFault.TheVariants.{Read};
 ghost use Rattle.transcript.specs.Refusals.{bench_refusal, ends_run};
 
 use layout::ReadFault;
-use refusal::{Fault, Refusal};
+use refusal::Refusal;
 
 /// Why the bench refuses a record.
 #[derive(Clone, Copy, PartialEq, Eq, Debug)]
@@ -21,12 +21,12 @@ impl From<ReadFault> for BenchFault {
     }
 }
 
-impl Fault for BenchFault {
-    ghost told = { bench_refusal };
+impl From<BenchFault> for Refusal {
+    ghost from_gives = { λ fault refusal. refusal ≡ bench_refusal fault };
 
-    fn refusal(&self) -> Refusal {
-        match self {
-            BenchFault::Read(fault) => fault.refusal(),
+    fn from(fault: BenchFault) -> Refusal {
+        match fault {
+            BenchFault::Read(fault) => fault.into(),
         }
     }
 }
@@ -36,9 +36,6 @@ impl BenchFault {
     pub fn ends_run(self) -> bool
         ensures { result ≡ ends_run self }
     {
-        match self {
-            BenchFault::Read(ReadFault::Cut { .. }) => true,
-            _ => false,
-        }
+        matches!(self, BenchFault::Read(ReadFault::Cut { .. }))
     }
 }

@@ -4,7 +4,7 @@ ghost use Rattle.transcript.specs.Entries.{entry_of};
 ghost use Rattle.transcript.specs.Text.{entry_text};
 
 use super::fault::BenchFault;
-use refusal::Fault;
+use refusal::Refusal;
 use std::fmt;
 
 /// What the bench says of one record: what it is, or why and where it is refused. `{}` writes the line without its
@@ -43,7 +43,7 @@ impl fmt::Display for Line<'_> {
             Line::Strike { ticket } => write!(f, "S {ticket}"),
             Line::Tick => write!(f, "T"),
             Line::Refused { place, fault } => {
-                let refusal = fault.refusal();
+                let refusal = Refusal::from(fault);
                 write!(f, "R {place} {refusal}")
             }
         }
