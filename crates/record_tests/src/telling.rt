@@ -14,8 +14,14 @@ fn told(number: u8, value: u64) -> Refusal {
 #[test]
 fn each_fault_has_its_number_and_value(rt: HostRuntime) {
     assert_eq!(rt; Refusal::from(ReadFault::Cut { place: 72 }), told(1, 72));
-    assert_eq!(rt; Refusal::from(ReadFault::UnknownKind { place: 72 }), told(2, 72));
-    assert_eq!(rt; Refusal::from(ReadFault::Forbidden { place: 73 }), told(3, 73));
+    assert_eq!(rt;
+        Refusal::from(ReadFault::UnknownKind { place: 72 }),
+        told(2, 72)
+    );
+    assert_eq!(rt;
+        Refusal::from(ReadFault::Forbidden { place: 73 }),
+        told(3, 73)
+    );
     assert_eq!(rt;
         Refusal::from(WriteFault::Field(WrittenField::Arrival)),
         told(4, 1)
@@ -28,7 +34,10 @@ fn each_fault_has_its_number_and_value(rt: HostRuntime) {
         Refusal::from(WriteFault::Field(WrittenField::Label)),
         told(4, 3)
     );
-    assert_eq!(rt; Refusal::from(WriteFault::Short { needed: 24 }), told(10, 24));
+    assert_eq!(rt;
+        Refusal::from(WriteFault::Short { needed: 24 }),
+        told(10, 24)
+    );
 }
 
 fn passed_up(fault: ReadFault) -> Result<(), BenchFault> {
