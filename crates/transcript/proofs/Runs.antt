@@ -48,10 +48,6 @@ none_some o x p q = differ (cc)
 abbrev pub Running : Run → ℕ → Type 0
 Running r k = ((r.over ≡ false) × (r.place ≡ 24 * k) × (24 * k ≤ length r.input)) ⊎ ((r.over ≡ true) × (k ≡ records r.input))
 
--- what is left of a run
-abbrev pub left : Run → ℕ
-left r = length r.input - r.place + cond r.over 0 1
-
 -- after one more line
 pub record Onward (r : Run) (k : ℕ) (e : Entry) : Type 0 where
   pub running : Running (next_run r) (k + 1)

@@ -1,5 +1,5 @@
 -- A run of the bench over an input.
-use Rattle.std.specs.Prelude.{ℕ, Bool, true, false, cond, List, None, Option, Result}
+use Rattle.std.specs.Prelude.{◌≡◌, ℕ, ◌+◌, ◌-◌, Bool, true, false, cond, List, length, None, Option, Result}
 use Rattle.layout.specs.Reading.{place_after}
 use Rattle.transcript.specs.declared.fault.BenchFault.{BenchFault}
 use Rattle.transcript.specs.declared.bench.Bench.{Bench}
@@ -37,3 +37,12 @@ next_run r = record {
   place = cond r.over r.place (place_after r.input r.place);
   over = cond r.over true (over_by (step_of r));
 }
+
+-- no more lines than this are left: a byte and more for each, and one for a cut record
+abbrev pub lines_left : Run → ℕ
+lines_left r = length r.input - r.place + cond r.over 0 1
+
+-- what is said of the next record, and the run after it
+pub record SaysNext (before : Run) (said : Option Entry) (after : Run) : Type 0 where
+  pub entry : said ≡ next_entry before
+  pub run : after ≡ next_run before

@@ -1,7 +1,8 @@
 // The bench works the records of a file one by one.
 ghost use Rattle.std.specs.Prelude.{◌≡◌, IsAscii};
 ghost use Rattle.transcript.specs.Entries.{entry_by, step_by};
-ghost use Rattle.transcript.specs.Run.{run_of, start_of, step_of, passed, next_entry, next_run};
+ghost use Rattle.std.specs.Iterator.{at_most};
+ghost use Rattle.transcript.specs.Run.{run_of, start_of, step_of, passed, lines_left, SaysNext};
 
 use super::fault::BenchFault;
 use super::line::Line;
@@ -17,10 +18,7 @@ fn text(label: &[u8]) -> &str
     requires { IsAscii label.now }
     ensures { result.now ≡ label.now }
 {
-    match from_utf8(label) {
-        Ok(text) => text,
-        Err(_) => unreachable(),
-    }
+    from_utf8(label).unwrap()
 }
 
 /// Works the records of a file one by one.
@@ -71,12 +69,17 @@ impl<'a> Bench<'a> {
             Record::Tick => Line::Tick,
         }))
     }
+}
 
-    /// The line of the next record. There is none after the last record, nor after a cut one.
-    pub fn next_line(&mut self) -> Option<Line<'a>>
-        ensures said { entry_by result ≡ next_entry (run_of self.old) }
-        ensures after { run_of self.new ≡ next_run (run_of self.old) }
-    {
+/// The lines of the records. There is none after the last record, nor after a cut one.
+impl<'a> Iterator for Bench<'a> {
+    type Item = Line<'a>;
+
+    ghost next_gives = { λ bench line after. SaysNext (run_of bench) (entry_by line) (run_of after) };
+
+    ghost remaining = { λ bench. at_most (lines_left (run_of bench)) };
+
+    fn next(&mut self) -> Option<Line<'a>> {
         if self.over {
             return None;
         }

@@ -24,8 +24,7 @@ impl fmt::Display for Transcript<'_> {
     ghost output = { λ t. Some (transcript t.input.now) };
 
     fn fmt<W: fmt::Write>(&self, f: &mut fmt::Formatter<W>) -> fmt::Result {
-        let mut bench = Bench::new(self.input);
-        while let Some(line) = bench.next_line() {
+        for line in Bench::new(self.input) {
             writeln!(f, "{line}")?;
         }
         Ok(())
