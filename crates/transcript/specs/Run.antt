@@ -2,7 +2,6 @@
 use Rattle.std.specs.Prelude.{◌≡◌, ℕ, ◌+◌, ◌-◌, Bool, true, false, cond, List, length, None, Option, Result}
 use Rattle.layout.specs.Reading.{place_after}
 use Rattle.transcript.specs.declared.fault.BenchFault.{BenchFault}
-use Rattle.transcript.specs.declared.bench.Bench.{Bench}
 use Rattle.transcript.specs.Entries.{Entry, step_at, entry_at, over_by}
 
 -- its input, the place of the next record, and whether a fault has ended it
@@ -10,10 +9,6 @@ pub record Run : Type 0 where
   pub input : List ℕ
   pub place : ℕ
   pub over : Bool
-
--- the run that a bench of the code is at
-abbrev pub run_of : Bench → Run
-run_of b = record { input = b.reader.input.now; place = b.reader.place; over = b.over }
 
 abbrev pub start_of : List ℕ → Run
 start_of s = record { input = s; place = 0; over = false }

@@ -2,12 +2,13 @@
 ghost use Rattle.std.specs.Prelude.{◌≡◌, IsAscii};
 ghost use Rattle.transcript.specs.Entries.{entry_by, step_by};
 ghost use Rattle.std.specs.Iterator.{at_most};
-ghost use Rattle.transcript.specs.Run.{run_of, start_of, step_of, passed, lines_left, SaysNext};
+ghost use Rattle.transcript.specs.Run.{start_of, step_of, passed, lines_left, SaysNext};
 
 use super::fault::BenchFault;
 use super::line::Line;
 use layout::Record;
 use record::{Reader, shown};
+use std::marker::Model;
 use std::str::from_utf8;
 
 // What a blank label shows.
@@ -29,10 +30,19 @@ pub struct Bench<'a> {
     over: bool,
 }
 
+impl<'a> Model for Bench<'a> {
+    ghost use Rattle.transcript.specs.Run.{Run};
+    ghost use Rattle.transcript.specs.Bench.{run_of};
+
+    ghost Value = { Run };
+
+    ghost view = { run_of };
+}
+
 impl<'a> Bench<'a> {
     /// A bench at the start of the input.
     pub fn new(input: &'a [u8]) -> Bench<'a>
-        ensures { run_of result ≡ start_of input.now }
+        ensures { result ≡ start_of input.now }
     {
         Bench {
             reader: Reader::new(input),
@@ -42,8 +52,8 @@ impl<'a> Bench<'a> {
 
     // Reads the next record, and says what it is.
     fn step(&mut self) -> Result<Option<Line<'a>>, BenchFault>
-        ensures said { step_by result ≡ step_of (run_of self.old) }
-        ensures after { run_of self.new ≡ passed (run_of self.old) }
+        ensures said { step_by result ≡ step_of self.old }
+        ensures after { self.new ≡ passed self.old }
     {
         let Some(record) = self.reader.next()? else {
             return Ok(None);
@@ -75,9 +85,9 @@ impl<'a> Bench<'a> {
 impl<'a> Iterator for Bench<'a> {
     type Item = Line<'a>;
 
-    ghost next_gives = { λ bench line after. SaysNext (run_of bench) (entry_by line) (run_of after) };
+    ghost next_gives = { λ run line after. SaysNext run (entry_by line) after };
 
-    ghost remaining = { λ bench. at_most (lines_left (run_of bench)) };
+    ghost remaining = { λ run. at_most (lines_left run) };
 
     fn next(&mut self) -> Option<Line<'a>> {
         if self.over {

@@ -1,7 +1,7 @@
 use Rattle.std.proofs.Common.{◌≡◌, ℕ, ◌+◌, ◌*◌, true, List, ◌++◌, Some, sym, refl, ap, ◌∙◌, subst}
 use Rattle.std.proofs.Output.{has_written_append, has_written_of_eq}
 use Rattle.transcript.specs.Entries.{entry_of, entry_at}
-use Rattle.transcript.specs.Run.{Run, run_of}
+use Rattle.transcript.specs.Run.{Run}
 use Rattle.transcript.specs.Text.{line_text, records}
 use Rattle.transcript.proofs.Runs.{Running, front, front_more, onward, finished}
 use Rattle.transcript.proofs.text.TranscriptDisplay.fmt.Goals as goal
@@ -13,7 +13,7 @@ loop-line-preserved g c =
     let k = inv.1.0 in
     let e = entry_of c.in-Some.line in
     let call = c.in-Some.ensures.steps in
-    let went = onward (run_of c.loop-line.line-iterator) k e inv.1.1.0 (sym call.entry) in
+    let went = onward c.loop-line.line-iterator k e inv.1.1.0 (sym call.entry) in
     let line : entry_at s (24 * k) ≡ Some e = ap (λ (x : List ℕ). entry_at x (24 * k)) (sym inv.0) ∙ went.entry in
     let text : front s k ++ line_text (Some e) ≡ front s (k + 1) = sym (front_more s k ∙ ap (λ o. front s k ++ line_text o) line) in (
       ap (λ (r : Run). r.input) call.run ∙ inv.0,
@@ -34,5 +34,5 @@ returns-clause-writes g c plain ok =
     let s = c.args.self.now.input.now in
     let inv = c.loop-line.invariant in
     let k = inv.1.0 in
-    let done = finished (run_of c.loop-line.line-iterator) k inv.1.1.0 (sym c.in-None.ensures.steps.entry) in
+    let done = finished c.loop-line.line-iterator k inv.1.1.0 (sym c.in-None.ensures.steps.entry) in
     has_written_of_eq g.W.Write.write_str_gives c.args.f.now (front s k) _ c.loop-line.f (ap (front s) (done ∙ ap records inv.0)) (inv.1.1.1 plain)

@@ -1,0 +1,6 @@
+-- The run that a bench of the code is at.
+use Rattle.transcript.specs.declared.bench.Bench.TheInside.{Inside}
+use Rattle.transcript.specs.Run.{Run}
+
+abbrev pub run_of : Inside → Run
+run_of b = record { input = b.reader.input.now; place = b.reader.place; over = b.over }
