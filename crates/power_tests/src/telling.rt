@@ -2,31 +2,35 @@ use power::{CubeField, PowerFault};
 use refusal::{Layer, Refusal, Values};
 use std::test::Fail;
 
-fn told(number: u8, value: u64) -> Refusal {
-    Refusal {
-        layer: Layer::Power,
-        number,
-        values: Values::One(value),
-    }
+#[test]
+fn a_refusal_with_a_value_has_its_layer_and_number(rt: HostRuntime) {
+    assert_eq!(rt;
+        Refusal::with_value(Layer::Power, 5, 7),
+        Refusal {
+            layer: Layer::Power,
+            number: 5,
+            values: Values::One(7),
+        }
+    );
 }
 
 #[test]
 fn each_fault_has_its_number_and_value(rt: HostRuntime) {
     assert_eq!(rt;
         Refusal::from(PowerFault::Field(CubeField::FixedDraw)),
-        told(5, 7)
+        Refusal::with_value(Layer::Power, 5, 7)
     );
     assert_eq!(rt;
         Refusal::from(PowerFault::Short { needed: 256 }),
-        told(10, 256)
+        Refusal::with_value(Layer::Power, 10, 256)
     );
     assert_eq!(rt;
         Refusal::from(PowerFault::Broken { setting: 3 }),
-        told(12, 3)
+        Refusal::with_value(Layer::Power, 12, 3)
     );
     assert_eq!(rt;
         Refusal::from(PowerFault::Broken { setting: 255 }),
-        told(12, 255)
+        Refusal::with_value(Layer::Power, 12, 255)
     );
 }
 

@@ -3,40 +3,35 @@ use refusal::{Layer, Refusal, Values};
 use std::test::Fail;
 use transcript::BenchFault;
 
-fn told(number: u8, value: u64) -> Refusal {
-    Refusal {
-        layer: Layer::Record,
-        number,
-        values: Values::One(value),
-    }
-}
-
 #[test]
 fn each_fault_has_its_number_and_value(rt: HostRuntime) {
-    assert_eq!(rt; Refusal::from(ReadFault::Cut { place: 72 }), told(1, 72));
+    assert_eq!(rt;
+        Refusal::from(ReadFault::Cut { place: 72 }),
+        Refusal::with_value(Layer::Record, 1, 72)
+    );
     assert_eq!(rt;
         Refusal::from(ReadFault::UnknownKind { place: 72 }),
-        told(2, 72)
+        Refusal::with_value(Layer::Record, 2, 72)
     );
     assert_eq!(rt;
         Refusal::from(ReadFault::Forbidden { place: 73 }),
-        told(3, 73)
+        Refusal::with_value(Layer::Record, 3, 73)
     );
     assert_eq!(rt;
         Refusal::from(WriteFault::Field(WrittenField::Arrival)),
-        told(4, 1)
+        Refusal::with_value(Layer::Record, 4, 1)
     );
     assert_eq!(rt;
         Refusal::from(WriteFault::Field(WrittenField::Deadline)),
-        told(4, 2)
+        Refusal::with_value(Layer::Record, 4, 2)
     );
     assert_eq!(rt;
         Refusal::from(WriteFault::Field(WrittenField::Label)),
-        told(4, 3)
+        Refusal::with_value(Layer::Record, 4, 3)
     );
     assert_eq!(rt;
         Refusal::from(WriteFault::Short { needed: 24 }),
-        told(10, 24)
+        Refusal::with_value(Layer::Record, 10, 24)
     );
 }
 
@@ -49,7 +44,10 @@ fn passed_up(fault: ReadFault) -> Result<(), BenchFault> {
 fn a_fault_passes_up_whole(rt: HostRuntime) {
     let fault = ReadFault::Forbidden { place: 73 };
     assert_eq!(rt; passed_up(fault), Err(BenchFault::Read(fault)));
-    assert_eq!(rt; Refusal::from(BenchFault::Read(fault)), told(3, 73));
+    assert_eq!(rt;
+        Refusal::from(BenchFault::Read(fault)),
+        Refusal::with_value(Layer::Record, 3, 73)
+    );
     assert!(rt; !BenchFault::Read(fault).ends_run());
     assert!(rt; !BenchFault::Read(ReadFault::UnknownKind { place: 72 }).ends_run());
     assert!(rt; BenchFault::Read(ReadFault::Cut { place: 72 }).ends_run());
@@ -57,7 +55,7 @@ fn a_fault_passes_up_whole(rt: HostRuntime) {
 
 #[test]
 fn a_refusal_is_printed_by_number_and_values(rt: HostRuntime) -> Result<(), Fail> {
-    let one = format!(in rt.alloc(); "{}", told(13, 65))?;
+    let one = format!(in rt.alloc(); "{}", Refusal::with_value(Layer::Record, 13, 65))?;
     assert_eq!(rt; one.as_str(), "13 65");
     let overload = Refusal {
         layer: Layer::Bench,
