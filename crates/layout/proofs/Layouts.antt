@@ -1,13 +1,23 @@
--- The search for a forbidden byte, step by step.
-use Rattle.std.proofs.Common.{◌≡◌, ℕ, ◌+◌, ◌<◌, Bool, true, false, cond, List, [], ◌∷◌, length, get_or, drop, Some, sym, ap, ◌∙◌, arith}
-use Rattle.std.proofs.lemmas.List.{at_drop_more}
+-- The search for a forbidden byte.
+use Rattle.std.proofs.Common.{◌≡◌, ℕ, ◌+◌, ◌<◌, true, false, not, cond, List, [], ◌∷◌, length, drop, Some, refl, arith}
+use Rattle.std.specs.List.{find, enumerate_from}
+use Rattle.std.specs.Option.{option_map}
 use Rattle.layout.specs.declared.kind.Kind.{Kind}
 use Rattle.layout.specs.Layout.{allows, first_forbidden}
 use Rattle.layout.proofs.Differ.{differ}
 
--- one place on, where the byte there is allowed or not
-pub forbidden_step : (k : Kind) (bs : List ℕ) (i : ℕ) (v : Bool) → i < length bs → v ≡ allows k i (get_or bs i 0) → first_forbidden k i (drop i bs) ≡ cond v (first_forbidden k (i + 1) (drop (i + 1) bs)) (Some i)
-forbidden_step k bs i v h e = at_drop_more (first_forbidden k i) bs i 0 h ∙ ap (λ t. cond t (first_forbidden k (i + 1) (drop (i + 1) bs)) (Some i)) (sym e)
+find-enumerate : (k : Kind) (i : ℕ) (bs : List ℕ) → option_map (λ p. p.0) (find (λ p. not (allows k p.0 p.1)) (enumerate_from i bs)) ≡ first_forbidden k i bs
+find-enumerate k i [] = refl
+find-enumerate k i (b ∷ bs) =
+    elim (allows k i b) as (λ v. option_map (λ p. p.0) (cond (not v) (Some (i, b)) (find (λ p. not (allows k p.0 p.1)) (enumerate_from (i + 1) bs))) ≡ cond v (first_forbidden k (i + 1) bs) (Some i)) [
+      | true ↦ find-enumerate k (i + 1) bs
+      | false ↦ refl
+    ]
+
+-- the first forbidden place, of bytes that are taken with their places
+pub find_forbidden : (k : Kind) (bs : List ℕ) → option_map (λ p. p.0) (find (λ p. not (allows k p.0 p.1)) (drop 1 (enumerate_from 0 bs))) ≡ first_forbidden k 1 (drop 1 bs)
+find_forbidden k [] = refl
+find_forbidden k (b ∷ bs) = find-enumerate k 1 bs
 
 -- a forbidden place lies among the bytes looked at
 pub forbidden_within : (k : Kind) (i : ℕ) (bs : List ℕ) (j : ℕ) → Some j ≡ first_forbidden k i bs → j < i + length bs

@@ -10,6 +10,6 @@ pub data Content : Type 0 where
 
 -- what a record of the code says, wherever its label lies
 abbrev pub content_of : Record → Content
-content_of (Offer t a d w l) = offer t a d w l.now
+content_of (Offer o) = offer o.ticket o.arrival o.deadline o.work o.label.now
 content_of (Strike t) = strike t
 content_of Tick = tick

@@ -1,6 +1,6 @@
 -- Labels.
-use Rattle.std.specs.Prelude.{ℕ, ◌-◌, Bool, true, ◌&&◌, List, [], ◌∷◌, length, take, ◌==◌, nat_eq}
-use Rattle.std.specs.List.{suffix_len}
+use Rattle.std.specs.Prelude.{ℕ, ◌-◌, Bool, ◌&&◌, List, [], ◌∷◌, length, take, ◌==◌, nat_eq}
+use Rattle.std.specs.List.{suffix_len, list_all}
 use Rattle.layout.specs.Layout.{printable}
 
 -- the length without the last spaces
@@ -17,8 +17,7 @@ shown_label [] default = default
 shown_label (b ∷ bs) default = b ∷ bs
 
 abbrev pub all_printable : List ℕ → Bool
-all_printable [] = true
-all_printable (b ∷ bs) = printable b && all_printable bs
+all_printable l = list_all printable l
 
 -- six bytes that a label may hold
 abbrev pub is_label : List ℕ → Bool

@@ -1,5 +1,6 @@
 // Where the fields of a record stand, its kinds, and the bytes that each kind allows.
 ghost use Rattle.std.specs.Prelude.{◌≡◌, drop};
+ghost use Rattle.std.specs.Option.{ok_or};
 ghost use Rattle.layout.specs.Layout.{kind_byte, kind_of, numbers_end, printable, allows, first_forbidden};
 
 /// Where the ticket begins. A field ends where the next one begins.
@@ -21,40 +22,48 @@ pub const LABEL: usize = 18;
 pub const RECORD_LEN: usize = 24;
 
 /// What a record is, with the byte 0 that says so.
-#[derive(Clone, Copy)]
+#[derive(Clone, Copy, PartialEq, Eq, Debug)]
 pub enum Kind {
     Offer = 0x4f,
     Strike = 0x53,
     Tick = 0x54,
 }
 
+/// A byte that stands for no kind.
+#[derive(Clone, Copy, PartialEq, Eq, Debug)]
+pub struct UnknownKind(pub u8);
+
+impl From<Kind> for u8 {
+    ghost from_gives = { λ kind byte. byte ≡ kind_byte kind };
+
+    fn from(kind: Kind) -> u8 {
+        kind as u8
+    }
+}
+
+impl TryFrom<u8> for Kind {
+    type Error = UnknownKind;
+
+    ghost try_from_gives = { λ byte outcome. outcome ≡ ok_or (kind_of byte) (record { 0 = byte }) };
+
+    fn try_from(byte: u8) -> Result<Kind, UnknownKind> {
+        match byte {
+            0x4f => Ok(Kind::Offer),
+            0x53 => Ok(Kind::Strike),
+            0x54 => Ok(Kind::Tick),
+            _ => Err(UnknownKind(byte)),
+        }
+    }
+}
+
 /// Whether a label may hold the byte: 20 to 7E, hexadecimal.
 pub fn is_printable(byte: u8) -> bool
     ensures { result ≡ printable byte }
 {
-    0x20 <= byte && byte <= 0x7e
+    matches!(byte, b' '..=b'~')
 }
 
 impl Kind {
-    /// The byte that stands for the kind.
-    pub fn byte(self) -> u8
-        ensures { result ≡ kind_byte self }
-    {
-        self as u8
-    }
-
-    /// The kind whose byte this is, if it is one.
-    pub fn of(byte: u8) -> Option<Kind>
-        ensures { result ≡ kind_of byte }
-    {
-        match byte {
-            0x4f => Some(Kind::Offer),
-            0x53 => Some(Kind::Strike),
-            0x54 => Some(Kind::Tick),
-            _ => None,
-        }
-    }
-
     // Where the numbers of a record of this kind end; zeros follow up to the label.
     fn numbers_end(self) -> usize
         ensures { result ≡ numbers_end self }
@@ -71,7 +80,7 @@ impl Kind {
         ensures { result ≡ allows self at byte }
     {
         if at < LABEL {
-            (TICKET <= at && at < self.numbers_end()) || byte == 0
+            (TICKET..self.numbers_end()).contains(&at) || byte == 0
         } else {
             match self {
                 Kind::Offer => is_printable(byte),
@@ -80,22 +89,15 @@ impl Kind {
         }
     }
 
-    // The first place from `from` on that holds a byte which the layout forbids.
-    fn forbidden_from(self, bytes: &[u8], from: usize) -> Option<usize>
-        ensures { result ≡ first_forbidden self from (drop from bytes.now) }
-    {
-        for at in from..bytes.len() {
-            if !self.allows(at, bytes[at]) {
-                return Some(at);
-            }
-        }
-        None
-    }
-
     /// The first place after byte 0 that holds a byte which the layout of the kind forbids.
     pub fn first_forbidden(self, bytes: &[u8]) -> Option<usize>
         ensures { result ≡ first_forbidden self 1 (drop 1 bytes.now) }
     {
-        self.forbidden_from(bytes, 1)
+        bytes
+            .iter()
+            .enumerate()
+            .skip(1)
+            .find(|(at, byte)| !self.allows(*at, **byte))
+            .map(|(at, _)| at)
     }
 }

@@ -23,6 +23,8 @@ mod content;
 mod fault;
 mod kind;
 
-pub use content::Record;
+pub use content::{Offer, Record};
 pub use fault::{ReadFault, WriteFault, WrittenField};
-pub use kind::{ARRIVAL, DEADLINE, Kind, LABEL, RECORD_LEN, TICKET, WORK, is_printable};
+pub use kind::{
+    ARRIVAL, DEADLINE, Kind, LABEL, RECORD_LEN, TICKET, UnknownKind, WORK, is_printable,
+};
