@@ -19,7 +19,7 @@ pub data Entry : Type 0 where
 
 -- the entry that a line of the code stands for
 abbrev pub entry_of : Line → Entry
-entry_of (Offer t a d w l) = offered t a d w l.now
+entry_of (Offer o) = offered o.ticket o.arrival o.deadline o.work o.label.now
 entry_of (Strike t) = struck t
 entry_of Tick = ticked
 entry_of (Refused place f) = refused place f

@@ -59,21 +59,9 @@ impl<'a> Bench<'a> {
             return Ok(None);
         };
         Ok(Some(match record {
-            Record::Offer {
-                ticket,
-                arrival,
-                deadline,
-                work,
-                label,
-            } => {
-                let label = text(shown(label, DEFAULT_LABEL));
-                Line::Offer {
-                    ticket,
-                    arrival,
-                    deadline,
-                    work,
-                    label,
-                }
+            Record::Offer(offer) => {
+                let label = text(shown(offer.label, DEFAULT_LABEL));
+                Line::Offer(offer.with_label(label))
             }
             Record::Strike { ticket } => Line::Strike { ticket },
             Record::Tick => Line::Tick,

@@ -4,6 +4,7 @@ ghost use Rattle.transcript.specs.Entries.{entry_of};
 ghost use Rattle.transcript.specs.Text.{entry_text};
 
 use super::fault::BenchFault;
+use layout::Offer;
 use refusal::Refusal;
 use std::fmt;
 
@@ -11,21 +12,10 @@ use std::fmt;
 /// line feed.
 #[derive(Clone, Copy)]
 pub enum Line<'a> {
-    Offer {
-        ticket: u16,
-        arrival: u64,
-        deadline: u64,
-        work: u16,
-        label: &'a str,
-    },
-    Strike {
-        ticket: u16,
-    },
+    Offer(Offer<&'a str>),
+    Strike { ticket: u16 },
     Tick,
-    Refused {
-        place: usize,
-        fault: BenchFault,
-    },
+    Refused { place: usize, fault: BenchFault },
 }
 
 impl fmt::Display for Line<'_> {
@@ -33,13 +23,13 @@ impl fmt::Display for Line<'_> {
 
     fn fmt<W: fmt::Write>(&self, f: &mut fmt::Formatter<W>) -> fmt::Result {
         match *self {
-            Line::Offer {
+            Line::Offer(Offer {
                 ticket,
                 arrival,
                 deadline,
                 work,
                 label,
-            } => { write!(f, "O {ticket} {arrival} {deadline} {work} {label}") }
+            }) => write!(f, "O {ticket} {arrival} {deadline} {work} {label}"),
             Line::Strike { ticket } => write!(f, "S {ticket}"),
             Line::Tick => write!(f, "T"),
             Line::Refused { place, fault } => {
