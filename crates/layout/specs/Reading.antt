@@ -44,6 +44,15 @@ read_at input place =
 abbrev pub place_after : List ℕ → ℕ → ℕ
 place_after input place = cond (nat_lt (length input - place) 24) place (place + 24)
 
+-- where a reader is: its input, and the place of the next record
+pub record Position : Type 0 where
+  pub input : List ℕ
+  pub place : ℕ
+
+-- where it is after one record
+abbrev pub after : Position → Position
+after p = record { input = p.input; place = place_after p.input p.place }
+
 -- the code's answers as plain values
 abbrev pub parsed_by : Result Record ReadFault → Result Content ReadFault
 parsed_by (Ok r) = Ok (content_of r)

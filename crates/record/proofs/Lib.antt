@@ -1,1 +1,2 @@
 mod Encodings
+mod Shifts

@@ -1,43 +1,41 @@
 // The reader: a struct over the input with a place.
 ghost use Rattle.std.specs.Prelude.{◌≡◌, ◌+◌, ◌^◌, ◌<◌, ◌≤◌, length};
 ghost use Rattle.layout.specs.Content.{content_of};
-ghost use Rattle.layout.specs.Reading.{content, parsed, parsed_by, one, read_at, read_by, place_after};
+ghost use Rattle.layout.specs.Reading.{content, parsed, parsed_by, one, read_at, read_by, after};
 ghost use Rattle.layout.specs.RoundTrip.{OnlyForm};
 ghost use Rattle.layout.specs.BigEndian.{part};
 
 use super::label::trim;
-use super::numbers::{read_u16, read_u48};
-use layout::{ARRIVAL, DEADLINE, Kind, LABEL, RECORD_LEN, ReadFault, Record, TICKET, WORK};
+use super::numbers::read_number;
+use layout::{ARRIVAL, DEADLINE, Kind, LABEL, Offer, RECORD_LEN, ReadFault, Record, TICKET, WORK};
+use std::marker::Model;
 
-// What the 24 bytes of an allowed record say.
-fn content_of<'a>(kind: Kind, bytes: &'a [u8]) -> Record<'a>
-    requires { length bytes.now ≡ 24 }
+// What the bytes of an allowed record say.
+fn content_of(kind: Kind, bytes: &[u8; RECORD_LEN]) -> Record<'_>
     ensures { content_of result ≡ content kind bytes.now }
 {
     match kind {
-        Kind::Offer => Record::Offer {
-            ticket: read_u16(&bytes[TICKET..ARRIVAL]),
-            arrival: read_u48(&bytes[ARRIVAL..DEADLINE]),
-            deadline: read_u48(&bytes[DEADLINE..WORK]),
-            work: read_u16(&bytes[WORK..LABEL]),
-            label: trim(&bytes[LABEL..RECORD_LEN]),
-        },
+        Kind::Offer => Record::Offer(Offer {
+            ticket: read_number(&bytes[TICKET..ARRIVAL]) as u16,
+            arrival: read_number(&bytes[ARRIVAL..DEADLINE]),
+            deadline: read_number(&bytes[DEADLINE..WORK]),
+            work: read_number(&bytes[WORK..LABEL]) as u16,
+            label: trim(&bytes[LABEL..]),
+        }),
         Kind::Strike => Record::Strike {
-            ticket: read_u16(&bytes[TICKET..ARRIVAL]),
+            ticket: read_number(&bytes[TICKET..ARRIVAL]) as u16,
         },
         Kind::Tick => Record::Tick,
     }
 }
 
-// The record of these 24 bytes, which stand at the place in the input.
-fn parse<'a>(bytes: &'a [u8], place: usize) -> Result<Record<'a>, ReadFault>
-    requires { (length bytes.now ≡ 24) × (place + 24 < 2 ^ 64) }
+// The record of these bytes, which stand at the place in the input.
+fn parse(bytes: &[u8; RECORD_LEN], place: usize) -> Result<Record<'_>, ReadFault>
+    requires { place + 24 < 2 ^ 64 }
     ensures said { parsed_by result ≡ parsed place bytes.now }
     ensures only { OnlyForm (one (parsed_by result)) bytes.now }
 {
-    let Some(kind) = Kind::of(bytes[0]) else {
-        return Err(ReadFault::UnknownKind { place });
-    };
+    let kind = Kind::try_from(bytes[0]).map_err(|_| ReadFault::UnknownKind { place })?;
     if let Some(at) = kind.first_forbidden(bytes) {
         return Err(ReadFault::Forbidden { place: place + at });
     }
@@ -56,34 +54,33 @@ fn parse<'a>(bytes: &'a [u8], place: usize) -> Result<Record<'a>, ReadFault>
 pub struct Reader<'a> {
     input: &'a [u8],
     place: usize,
-    ghost within: { place ≤ length input.now },
+}
+
+impl<'a> Model for Reader<'a> {
+    ghost use Rattle.std.specs.Prelude.{◌≤◌, length};
+    ghost use Rattle.layout.specs.Reading.{Position};
+
+    ghost Value = { Position };
+
+    ghost view = { λ r. record { input = r.input.now; place = r.place } };
+
+    ghost invariant = { λ r. r.place ≤ length r.input.now };
 }
 
 impl<'a> Reader<'a> {
     /// A reader at the start of the input.
     pub fn new(input: &'a [u8]) -> Reader<'a>
-        ensures { (result.place ≡ 0) × (result.input.now ≡ input.now) }
+        ensures { result ≡ record { input = input.now; place = 0 } }
     {
         Reader { input, place: 0 }
     }
 
     /// The place of the next record, in bytes from the start of the input.
     pub fn place(&self) -> usize
-        ensures { result ≡ self.now.place }
+        ensures place { result ≡ self.now.place }
+        ensures within { result ≤ length self.now.input }
     {
         self.place
-    }
-
-    // Passes over one record.
-    fn pass(&mut self)
-        requires { self.old.place + 24 ≤ length self.old.input.now }
-        ensures place { self.new.place ≡ self.old.place + 24 }
-        ensures input { self.new.input.now ≡ self.old.input.now }
-    {
-        *self = Reader {
-            input: self.input,
-            place: self.place + RECORD_LEN,
-        };
     }
 
     /// The next record, or `None` at the end of the input.
@@ -91,21 +88,19 @@ impl<'a> Reader<'a> {
     /// Refuses a record that is cut, of an unknown kind or with a byte that its layout forbids, with the values that
     /// [`ReadFault`] names. After the last two it goes on with the next record.
     pub fn next(&mut self) -> Result<Option<Record<'a>>, ReadFault>
-        ensures said { read_by result ≡ read_at self.old.input.now self.old.place }
-        ensures only { OnlyForm (read_by result) (part self.old.place 24 self.old.input.now) }
-        ensures place { self.new.place ≡ place_after self.old.input.now self.old.place }
-        ensures input { self.new.input.now ≡ self.old.input.now }
+        ensures said { read_by result ≡ read_at self.old.input self.old.place }
+        ensures only { OnlyForm (read_by result) (part self.old.place 24 self.old.input) }
+        ensures after { self.new ≡ after self.old }
     {
         let place = self.place;
-        let left = self.input.len() - place;
-        if left == 0 {
+        let left = &self.input[place..];
+        if left.is_empty() {
             return Ok(None);
         }
-        if left < RECORD_LEN {
+        let Some(bytes) = left.first_chunk::<RECORD_LEN>() else {
             return Err(ReadFault::Cut { place });
-        }
-        let bytes = &self.input[place..place + RECORD_LEN];
-        self.pass();
+        };
+        self.place += RECORD_LEN;
         let record = parse(bytes, place)?;
         Ok(Some(record))
     }

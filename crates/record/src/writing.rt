@@ -1,76 +1,71 @@
 // The writer: one record into the caller's list.
-ghost use Rattle.std.specs.Prelude.{◌≡◌, true, length, take, is_ok};
+ghost use Rattle.std.specs.Prelude.{◌≡◌, ◌^◌, ◌<◌, true, length, take, is_ok, OnOk};
 ghost use Rattle.layout.specs.Content.{content_of};
 ghost use Rattle.layout.specs.Writing.{laid_out, encoded, encoded_by, checked, checked_offer, write_of, written_into};
 ghost use Rattle.layout.specs.RoundTrip.{Sized, bare, ReadsAs};
 
 use super::label::is_label;
 use layout::{
-    ARRIVAL, DEADLINE, Kind, LABEL, RECORD_LEN, Record, TICKET, WORK, WriteFault, WrittenField,
+    ARRIVAL, DEADLINE, Kind, LABEL, Offer, RECORD_LEN, Record, TICKET, WORK, WriteFault,
+    WrittenField,
 };
 
 // The greatest number that fits six bytes.
 const MAX_TICK: u64 = 0xffff_ffff_ffff;
 
 // Whether the fields of an offer fit their bytes.
-fn check_offer(arrival: u64, deadline: u64, label: &[u8]) -> Result<(), WriteFault>
-    ensures { result ≡ checked_offer arrival deadline label.now }
+fn check_offer(offer: &Offer<&[u8]>) -> Result<(), WriteFault>
+    ensures { result ≡ checked_offer offer.now.arrival offer.now.deadline offer.now.label.now }
 {
-    if arrival > MAX_TICK {
+    if offer.arrival > MAX_TICK {
         return Err(WriteFault::Field(WrittenField::Arrival));
     }
-    if deadline > MAX_TICK {
+    if offer.deadline > MAX_TICK {
         return Err(WriteFault::Field(WrittenField::Deadline));
     }
-    if !is_label(label) {
+    if !is_label(offer.label) {
         return Err(WriteFault::Field(WrittenField::Label));
     }
     Ok(())
 }
 
-// The label of a strike or a tick.
-const BLANK: &[u8] = b"      ";
+// The fields of a tick. A strike has these but for its ticket.
+const BLANK: Offer<&[u8]> = Offer {
+    ticket: 0,
+    arrival: 0,
+    deadline: 0,
+    work: 0,
+    label: b"      ",
+};
 
 // 24 bytes with these fields: of arrival and deadline the low six bytes.
-fn lay_out(
-    kind: Kind,
-    ticket: u16,
-    arrival: u64,
-    deadline: u64,
-    work: u16,
-    label: &[u8],
-) -> [u8; RECORD_LEN]
-    requires { length label.now ≡ 6 }
-    ensures { result ≡ laid_out kind ticket arrival deadline work label.now }
+fn lay_out(kind: Kind, fields: &Offer<&[u8]>) -> [u8; RECORD_LEN]
+    requires { length fields.now.label.now ≡ 6 }
+    ensures bytes { result ≡ laid_out kind fields.now.ticket fields.now.arrival fields.now.deadline fields.now.work fields.now.label.now }
+    ensures sized { (fields.now.ticket < 2 ^ 16) × (fields.now.work < 2 ^ 16) }
 {
     let mut bytes = [0; RECORD_LEN];
-    bytes[0] = kind.byte();
-    bytes[TICKET..ARRIVAL].copy_from_slice(&ticket.to_be_bytes());
-    bytes[ARRIVAL..DEADLINE].copy_from_slice(&arrival.to_be_bytes()[2..8]);
-    bytes[DEADLINE..WORK].copy_from_slice(&deadline.to_be_bytes()[2..8]);
-    bytes[WORK..LABEL].copy_from_slice(&work.to_be_bytes());
-    bytes[LABEL..RECORD_LEN].copy_from_slice(label);
+    bytes[0] = kind.into();
+    bytes[TICKET..ARRIVAL].copy_from_slice(&fields.ticket.to_be_bytes());
+    bytes[ARRIVAL..DEADLINE].copy_from_slice(&fields.arrival.to_be_bytes()[2..]);
+    bytes[DEADLINE..WORK].copy_from_slice(&fields.deadline.to_be_bytes()[2..]);
+    bytes[WORK..LABEL].copy_from_slice(&fields.work.to_be_bytes());
+    bytes[LABEL..].copy_from_slice(fields.label);
     bytes
 }
 
 // The bytes of the record, where its fields fit them.
 fn encode(entry: &Record) -> Result<[u8; RECORD_LEN], WriteFault>
     ensures said { result ≡ encoded_by (checked (content_of entry.now)) (encoded (content_of entry.now)) }
-    ensures sized { Sized (content_of entry.now) }
+    ensures sized { OnOk result (Sized (content_of entry.now)) }
 {
     match *entry {
-        Record::Offer {
-            ticket,
-            arrival,
-            deadline,
-            work,
-            label,
-        } => {
-            check_offer(arrival, deadline, label)?;
-            Ok(lay_out(Kind::Offer, ticket, arrival, deadline, work, label))
+        Record::Offer(offer) => {
+            check_offer(&offer)?;
+            Ok(lay_out(Kind::Offer, &offer))
         }
-        Record::Strike { ticket } => Ok(lay_out(Kind::Strike, ticket, 0, 0, 0, BLANK)),
-        Record::Tick => Ok(lay_out(Kind::Tick, 0, 0, 0, 0, BLANK)),
+        Record::Strike { ticket } => Ok(lay_out(Kind::Strike, &Offer { ticket, ..BLANK })),
+        Record::Tick => Ok(lay_out(Kind::Tick, &BLANK)),
     }
 }
 
@@ -93,6 +88,6 @@ pub fn write(entry: &Record, out: &mut [u8]) -> Result<(), WriteFault>
     if out.len() < RECORD_LEN {
         return Err(WriteFault::Short { needed: RECORD_LEN });
     }
-    out[0..RECORD_LEN].copy_from_slice(&bytes);
+    out[..RECORD_LEN].copy_from_slice(&bytes);
     Ok(())
 }

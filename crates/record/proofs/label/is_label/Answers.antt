@@ -1,19 +1,10 @@
-use Rattle.std.proofs.Common.{true, false, sym, ◌∙◌}
-use Rattle.std.proofs.lemmas.List.{at_drop_all}
-use Rattle.layout.specs.Label.{all_printable}
-use Rattle.layout.proofs.Labels.{printable_step, label_is}
+use Rattle.std.proofs.Common.{rules, tests}
+use Rattle.std.proofs.lemmas.Iterator.{YieldsList-from_slice}
+use Rattle.std.proofs.lemmas.Iterator.Search.{all_from_yields_List}
+use Rattle.layout.specs.Layout.{printable}
 use Rattle.record.proofs.label.is_label.Goals as goal
 
-pub returns-then-not-is_printable : goal.returns-then-not-is_printable
-returns-then-not-is_printable c =
-    let l = c.args.label.now in
-    let e = printable_step l c.loop-byte.byte-index false c.loop-byte-test.true c.if-not-is_printable.ensures in
-    sym (label_is l false c.if-label-ne-LABEL_LEN.false (sym c.loop-byte.invariant ∙ e))
-
-pub loop-byte-preserved : goal.loop-byte-preserved
-loop-byte-preserved c = sym (printable_step c.args.label.now c.loop-byte.byte-index true c.loop-byte-test.true c.if-not-is_printable.ensures) ∙ c.loop-byte.invariant
-
-pub returns : goal.returns
-returns c =
-    let l = c.args.label.now in
-    sym (label_is l true c.if-label-ne-LABEL_LEN.false (sym c.loop-byte.invariant ∙ at_drop_all all_printable l c.loop-byte.byte-index c.loop-byte-test.false))
+pub returns-then-label-eq-LABEL_LEN : goal.returns-then-label-eq-LABEL_LEN
+returns-then-label-eq-LABEL_LEN c =
+    let all = all_from_yields_List printable _ _ c.all.result c.all.ensures.ran (YieldsList-from_slice c.args.label.now cc) (λ x b q k. search (rules, tests)) in
+    search (rules, all)

@@ -3,13 +3,14 @@ use Rattle.layout.proofs.BigEndian.{bytes_six}
 use Rattle.record.proofs.Encodings.{filled_is}
 use Rattle.record.proofs.writing.lay_out.Goals as goal
 
-pub returns : goal.returns
-returns c =
+pub returns-clause-bytes : goal.returns-clause-bytes
+returns-clause-bytes c =
     let six = λ (l : List ℕ). take 6 (drop 2 l) in
-    filled_is c.args.kind c.args.ticket c.args.arrival c.args.deadline c.args.work c.args.label.now _ _ _ _ _ _
-    c.byte.ensures
+    let f = c.args.fields.now in
+    filled_is c.args.kind f.ticket f.arrival f.deadline f.work f.label.now _ _ _ _ _ _
+    c.into.ensures
     (c.copy_from_slice.ensures.after ∙ c.to_be_bytes.ensures)
-    (c.copy_from_slice-2.ensures.after ∙ ap six c.to_be_bytes-2.ensures ∙ sym (bytes_six c.args.arrival))
-    (c.copy_from_slice-3.ensures.after ∙ ap six c.to_be_bytes-3.ensures ∙ sym (bytes_six c.args.deadline))
+    (c.copy_from_slice-2.ensures.after ∙ ap six c.to_be_bytes-2.ensures ∙ sym (bytes_six f.arrival))
+    (c.copy_from_slice-3.ensures.after ∙ ap six c.to_be_bytes-3.ensures ∙ sym (bytes_six f.deadline))
     (c.copy_from_slice-4.ensures.after ∙ c.to_be_bytes-4.ensures)
     c.copy_from_slice-5.ensures.after
