@@ -1,5 +1,5 @@
 use super::samples::{OFFER, STRIKE, TICK};
-use layout::{ReadFault, Record};
+use layout::{Offer, ReadFault, Record};
 use record::{Reader, shown};
 use std::process::Abort;
 use std::test::Fail;
@@ -18,7 +18,7 @@ fn may_stand(place: u8, byte: u8) -> bool {
     match place {
         b'z' => byte == 0,
         b'n' => true,
-        b'p' => byte >= 0x20 && byte <= 0x7e,
+        b'p' => matches!(byte, 0x20..=0x7e),
         b's' => byte == 0x20,
         _ => false,
     }
@@ -27,31 +27,24 @@ fn may_stand(place: u8, byte: u8) -> bool {
 // The fault of the first record, and the place after it.
 fn first_fault(input: &[u8]) -> (Option<ReadFault>, usize) {
     let mut reader = Reader::new(input);
-    let fault = match reader.next() {
-        Ok(_) => None,
-        Err(fault) => Some(fault),
-    };
+    let fault = reader.next().err();
     (fault, reader.place())
 }
 
 // Every edge at one place of a record.
-fn check_place(rt: &impl Abort, good: [u8; 24], places: &[u8; 24], at: usize) {
+fn check_place(rt: &impl Abort, good: [u8; 24], at: usize, place: u8) {
     assert!(rt; at < 24);
     for byte in EDGES {
         let mut bytes = good;
         bytes[at] = byte;
-        let want = if may_stand(places[at], byte) {
-            None
-        } else {
-            Some(ReadFault::Forbidden { place: at })
-        };
-        assert_eq!(rt; first_fault(&bytes), (want, 24));
+        let fault = (!may_stand(place, byte)).then_some(ReadFault::Forbidden { place: at });
+        assert_eq!(rt; first_fault(&bytes), (fault, 24));
     }
 }
 
 fn check_places(rt: &impl Abort, good: [u8; 24], places: &[u8; 24]) {
-    for at in 1..24 {
-        check_place(rt, good, places, at);
+    for (at, place) in places.iter().enumerate().skip(1) {
+        check_place(rt, good, at, *place);
     }
 }
 
@@ -72,14 +65,14 @@ fn a_tick_has_its_layout(rt: HostRuntime) {
 
 #[test]
 fn each_kind_is_read(rt: HostRuntime) {
-    let offer = Record::Offer {
+    let offer = Offer {
         ticket: 7,
         arrival: 0x0102_0304_0506,
         deadline: 0x0708_090a_0b0c,
         work: 0x0d0e,
-        label: b"fader",
+        label: b"fader".as_slice(),
     };
-    assert_eq!(rt; Reader::new(&OFFER).next(), Ok(Some(offer)));
+    assert_eq!(rt; Reader::new(&OFFER).next(), Ok(Some(Record::Offer(offer))));
     assert_eq!(rt;
         Reader::new(&STRIKE).next(),
         Ok(Some(Record::Strike { ticket: 0x0102 }))
@@ -142,13 +135,11 @@ fn check_label(rt: &impl Abort, six: &[u8; 6], want: &[u8]) -> Result<(), Fail> 
     let mut bytes = OFFER;
     bytes[18..24].copy_from_slice(six);
     let mut reader = Reader::new(&bytes);
-    match reader.next() {
-        Ok(Some(Record::Offer { label, .. })) => {
-            assert_eq!(rt; label, want);
-            Ok(())
-        }
-        _ => Err(Fail::new("no offer was read")),
-    }
+    let Ok(Some(Record::Offer(offer))) = reader.next() else {
+        return Err(Fail::new("no offer was read"));
+    };
+    assert_eq!(rt; offer.label, want);
+    Ok(())
 }
 
 #[test]
@@ -169,4 +160,23 @@ fn a_blank_label_shows_the_default(rt: HostRuntime) {
     assert_eq!(rt; shown(b"x", b"house"), b"x".as_slice());
     assert_eq!(rt; shown(b" x", b"house"), b" x".as_slice());
     assert_eq!(rt; shown(b"", b""), b"".as_slice());
+}
+
+#[test]
+fn another_label_leaves_the_numbers(rt: HostRuntime) {
+    let offer = Offer {
+        ticket: 1,
+        arrival: 2,
+        deadline: 3,
+        work: 4,
+        label: b"fader".as_slice(),
+    };
+    let named = Offer {
+        ticket: 1,
+        arrival: 2,
+        deadline: 3,
+        work: 4,
+        label: "house",
+    };
+    assert_eq!(rt; offer.with_label("house"), named);
 }

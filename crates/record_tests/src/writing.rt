@@ -1,39 +1,38 @@
 use super::samples::{OFFER, STRIKE, TICK};
-use layout::{Record, WriteFault, WrittenField};
+use layout::{Offer, Record, WriteFault, WrittenField};
 use record::{Reader, write};
 use std::process::Abort;
 
 const MAX_TICK: u64 = 281_474_976_710_655;
 
 fn offer(arrival: u64, deadline: u64, label: &[u8]) -> Record<'_> {
-    Record::Offer {
+    Record::Offer(Offer {
         ticket: 65_535,
         arrival,
         deadline,
         work: 65_535,
         label,
-    }
+    })
 }
 
 // The record is written into a list of 26 bytes AA, of which 25 are lent: the last two stay.
 fn check_written(rt: &impl Abort, entry: &Record, want: &[u8; 24]) {
     let mut bytes = [0xaau8; 26];
-    let out: &mut [u8] = &mut bytes;
-    assert!(rt; out.len() == 26);
-    assert_eq!(rt; write(entry, &mut out[0..25]), Ok(()));
-    assert_eq!(rt; &out[0..24], &want[0..24]);
-    assert!(rt; out[24] == 0xaa && out[25] == 0xaa);
+    assert_eq!(rt; write(entry, &mut bytes[..25]), Ok(()));
+    let mut whole = [0xaau8; 26];
+    whole[..24].copy_from_slice(want);
+    assert_eq!(rt; bytes, whole);
 }
 
 #[test]
 fn each_kind_is_written(rt: HostRuntime) {
-    let entry = Record::Offer {
+    let entry = Record::Offer(Offer {
         ticket: 7,
         arrival: 0x0102_0304_0506,
         deadline: 0x0708_090a_0b0c,
         work: 0x0d0e,
         label: b"fader ",
-    };
+    });
     check_written(&rt, &entry, &OFFER);
     check_written(&rt, &Record::Strike { ticket: 0x0102 }, &STRIKE);
     check_written(&rt, &Record::Tick, &TICK);
@@ -42,12 +41,9 @@ fn each_kind_is_written(rt: HostRuntime) {
 // The record is refused with a list of `len` bytes, which stay as they were.
 fn check_refused(rt: &impl Abort, entry: &Record, len: usize, want: WriteFault) {
     let mut bytes = [0xaau8; 24];
-    let out: &mut [u8] = &mut bytes;
-    assert!(rt; len <= out.len());
-    assert_eq!(rt; write(entry, &mut out[0..len]), Err(want));
-    for byte in out.iter() {
-        assert!(rt; *byte == 0xaa);
-    }
+    assert!(rt; len <= 24);
+    assert_eq!(rt; write(entry, &mut bytes[..len]), Err(want));
+    assert_eq!(rt; bytes, [0xaa; 24]);
 }
 
 fn check_field(rt: &impl Abort, entry: &Record, field: WrittenField) {
@@ -89,27 +85,24 @@ fn a_short_list_is_refused(rt: HostRuntime) {
     check_too_short(&rt, &Record::Tick);
 }
 
-fn fill(rt: &impl Abort, file: &mut [u8]) {
-    assert!(rt; file.len() == 96);
-    assert_eq!(rt;
-        write(&offer(MAX_TICK, 0, b" ~ ~  "), &mut file[0..24]),
-        Ok(())
-    );
-    assert_eq!(rt;
-        write(&Record::Strike { ticket: 65_535 }, &mut file[24..48]),
-        Ok(())
-    );
-    assert_eq!(rt; write(&Record::Tick, &mut file[48..72]), Ok(()));
-    assert_eq!(rt;
-        write(&offer(0, MAX_TICK, b"      "), &mut file[72..96]),
-        Ok(())
-    );
+// The records stand in a file one after another.
+fn file_of(rt: &impl Abort, entries: &[Record; 4]) -> [u8; 96] {
+    let mut file = [0u8; 96];
+    for (entry, place) in entries.iter().zip(file.chunks_mut(24)) {
+        assert_eq!(rt; write(entry, place), Ok(()));
+    }
+    file
 }
 
 #[test]
 fn what_is_written_reads_back(rt: HostRuntime) {
-    let mut file = [0u8; 96];
-    fill(&rt, &mut file);
+    let entries = [
+        offer(MAX_TICK, 0, b" ~ ~  "),
+        Record::Strike { ticket: 65_535 },
+        Record::Tick,
+        offer(0, MAX_TICK, b"      "),
+    ];
+    let file = file_of(&rt, &entries);
     let mut reader = Reader::new(&file);
     assert_eq!(rt; reader.next(), Ok(Some(offer(MAX_TICK, 0, b" ~ ~"))));
     assert_eq!(rt; reader.next(), Ok(Some(Record::Strike { ticket: 65_535 })));
