@@ -23,13 +23,15 @@ impl fmt::Display for Line<'_> {
 
     fn fmt<W: fmt::Write>(&self, f: &mut fmt::Formatter<W>) -> fmt::Result {
         match *self {
-            Line::Offer(Offer {
-                ticket,
-                arrival,
-                deadline,
-                work,
-                label,
-            }) => write!(f, "O {ticket} {arrival} {deadline} {work} {label}"),
+            Line::Offer(
+                Offer {
+                    ticket,
+                    arrival,
+                    deadline,
+                    work,
+                    label,
+                },
+            ) => write!(f, "O {ticket} {arrival} {deadline} {work} {label}"),
             Line::Strike { ticket } => write!(f, "S {ticket}"),
             Line::Tick => write!(f, "T"),
             Line::Refused { place, fault } => {
