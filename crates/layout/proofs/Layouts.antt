@@ -4,7 +4,6 @@ use Rattle.std.specs.List.{find, enumerate_from}
 use Rattle.std.specs.Option.{option_map}
 use Rattle.layout.specs.declared.kind.Kind.{Kind}
 use Rattle.layout.specs.Layout.{allows, first_forbidden}
-use Rattle.layout.proofs.Differ.{differ}
 
 find-enumerate : (k : Kind) (i : ℕ) (bs : List ℕ) → option_map (λ p. p.0) (find (λ p. not (allows k p.0 p.1)) (enumerate_from i bs)) ≡ first_forbidden k i bs
 find-enumerate k i [] = refl
@@ -21,7 +20,7 @@ find_forbidden k (b ∷ bs) = find-enumerate k 1 bs
 
 -- a forbidden place lies among the bytes looked at
 pub forbidden_within : (k : Kind) (i : ℕ) (bs : List ℕ) (j : ℕ) → Some j ≡ first_forbidden k i bs → j < i + length bs
-forbidden_within k i [] j e = absurd (differ (cc))
+forbidden_within k i [] j e = cc
 forbidden_within k i (b ∷ bs) j e =
     elim (allows k i b) as (λ v. Some j ≡ cond v (first_forbidden k (i + 1) bs) (Some i) → j < i + length (b ∷ bs)) [
       | true ↦ λ p. omega (arith, forbidden_within k (i + 1) bs j p)

@@ -2,6 +2,9 @@
 use Rattle.std.proofs.Common.{◌≡◌, ℕ, zero, suc, ◌+◌, ◌-◌, ◌^◌, ◌<◌, ◌≤◌, Bool, true, false, cond, ◌&&◌, ◌||◌, eqb, ltb, leb, ◌⊎◌, List, [], ◌∷◌, ◌++◌, length, get_or, drop, replicate, Some, None, Ok, Option, sym, refl, ap, ◌∙◌, subst, inl, inr, arith}
 use Rattle.std.proofs.lemmas.List.{length-drop, length-take-le, length-replicate, get_or-drop, get_or-take, get_or-replicate, ext_get_or}
 use Rattle.std.proofs.lemmas.Bool.{cond-true, cond-false, le-ltb, lt-ltb, eqb-true, and_from, and_right}
+use Rattle.std.proofs.lemmas.Bool.Decides.{nat_tests}
+use Rattle.std.proofs.lemmas.List.Elements.{All-from_get_or}
+use Rattle.std.proofs.lemmas.List.Sums.{list_all-from_AllPass}
 use Rattle.layout.specs.declared.kind.Kind.{Kind}
 use Rattle.layout.specs.declared.kind.Kind.TheVariants.{Offer, Strike, Tick}
 use Rattle.layout.specs.BigEndian.{number, bytes, part}
@@ -14,11 +17,10 @@ use Rattle.layout.specs.Writing.{laid_out, blank, encoded}
 use Rattle.layout.proofs.BigEndian.{spelt_out, bytes-number, number_fits}
 use Rattle.layout.proofs.Labels.{label_is, label_parts, same_from_trimmed}
 use Rattle.layout.proofs.WrittenReads.{offer_parts}
-use Rattle.layout.proofs.Differ.{differ}
 
 passed : (v : Bool) (o : Option ℕ) (i : ℕ) → cond v o (Some i) ≡ None → (v ≡ true) × (o ≡ None)
 passed true o i e = (refl, e)
-passed false o i e = absurd (differ (cc))
+passed false o i e = cc
 
 -- where no place is forbidden, each is allowed
 none_forbidden : (k : Kind) (i : ℕ) (bs : List ℕ) → first_forbidden k i bs ≡ None → (j m : ℕ) → m ≡ i + j → j < length bs → allows k m (get_or bs j 0) ≡ true
@@ -28,10 +30,10 @@ none_forbidden k i (b ∷ bs) e (suc j) m q h = none_forbidden k (i + 1) bs (pas
 
 zero_there : (k : Kind) (i v : ℕ) → i < 18 → (leb 2 i && ltb i (numbers_end k)) ≡ false → allows k i v ≡ true → v ≡ 0
 zero_there k i v h n e =
-    eqb-true v 0 (sym (ap (λ x. x || eqb v 0) n) ∙ sym (cond-true (ltb i 18) _ (label_allows k v) (lt-ltb i 18 h)) ∙ e)
+    grind (arith, nat_tests)
 
 label_there : (k : Kind) (i v : ℕ) → 18 ≤ i → allows k i v ≡ true → label_allows k v ≡ true
-label_there k i v h e = sym (cond-false (ltb i 18) _ (label_allows k v) (le-ltb i 18 h)) ∙ e
+label_there k i v h e = grind (arith, nat_tests)
 
 -- a part with one value throughout
 filled_part : (b : List ℕ) (at n v : ℕ) → at + n ≤ length b → ((i : ℕ) → at ≤ i → i < at + n → get_or b i 0 ≡ v) → part at n b ≡ replicate n v
@@ -44,10 +46,6 @@ filled_part b at n v h e =
 -- 24 bytes, field by field
 abbrev fields : List ℕ → List ℕ
 fields b = get_or b 0 0 ∷ get_or b 1 0 ∷ (part 2 2 b ++ (part 4 6 b ++ (part 10 6 b ++ (part 16 2 b ++ part 18 6 b))))
-
-all_printable_lem : (l : List ℕ) → ((i : ℕ) → i < length l → printable (get_or l i 0) ≡ true) → all_printable l ≡ true
-all_printable_lem [] h = refl
-all_printable_lem (b ∷ l) h = and_from (printable b) (all_printable l) (h 0 (omega arith)) (all_printable_lem l (λ i q. h (suc i) (omega arith)))
 
 -- 24 bytes of a kind, none of them forbidden
 module _ (k : Kind) (b : List ℕ) (long : length b ≡ 24) (small : (i : ℕ) → get_or b i 0 < 256) (kind : get_or b 0 0 ≡ kind_byte k) (free : first_forbidden k 1 (drop 1 b) ≡ None) where
@@ -121,7 +119,7 @@ module _ (b : List ℕ) (long : length b ≡ 24) (small : (i : ℕ) → get_or b
       let l = length_label Offer b long small e f in
       let at = λ (i : ℕ) (h : i < 6). get_or-take 6 (drop 18 b) i 0 h ∙ get_or-drop 18 b i 0 in
       let each = λ (i : ℕ) (h : i < length (label_of b)). ap printable (at i (omega (arith, l))) ∙ label_at Offer b long small e f (18 + i) (omega arith) (omega (arith, l)) in
-      label_is (label_of b) true l (all_printable_lem (label_of b) each)
+      label_is (label_of b) true l (list_all-from_AllPass printable (label_of b) (All-from_get_or (λ v. printable v ≡ true) (label_of b) 0 each))
 
   writable_whole : (k : Kind) → get_or b 0 0 ≡ kind_byte k → first_forbidden k 1 (drop 1 b) ≡ None → Writable (whole k b)
   writable_whole Offer e f =
@@ -139,28 +137,19 @@ same_content (offer t a d w l) (offer u b e v m) p q h =
     let me = (label_parts m (offer_parts b e m q.1).2).0 in
     let same : l ≡ m = same_from_trimmed l m (le ∙ sym me) cc in
     cc
-same_content (offer t a d w l) (strike u) p q h = absurd (differ (cc))
-same_content (offer t a d w l) tick p q h = absurd (differ (cc))
-same_content (strike t) (offer u b e v m) p q h = absurd (differ (cc))
+same_content (offer t a d w l) (strike u) p q h = cc
+same_content (offer t a d w l) tick p q h = cc
+same_content (strike t) (offer u b e v m) p q h = cc
 same_content (strike t) (strike u) p q h = h
-same_content (strike t) tick p q h = absurd (differ (cc))
-same_content tick (offer u b e v m) p q h = absurd (differ (cc))
-same_content tick (strike u) p q h = absurd (differ (cc))
+same_content (strike t) tick p q h = cc
+same_content tick (offer u b e v m) p q h = cc
+same_content tick (strike u) p q h = cc
 same_content tick tick p q h = refl
 
-kind_tests : (p q r : Bool) (k : Kind) → cond p (Some Offer) (cond q (Some Strike) (cond r (Some Tick) None)) ≡ Some k → ((p ≡ true) × (Offer ≡ k)) ⊎ (((q ≡ true) × (Strike ≡ k)) ⊎ ((r ≡ true) × (Tick ≡ k)))
-kind_tests true q r k e = inl (refl, cc)
-kind_tests false true r k e = inr (inl (refl, cc))
-kind_tests false false true k e = inr (inr (refl, cc))
-kind_tests false false false k e = absurd (differ (cc))
-
-by_kind : {v : ℕ} {k : Kind} → ((eqb v 0x4f ≡ true) × (Offer ≡ k)) ⊎ (((eqb v 0x53 ≡ true) × (Strike ≡ k)) ⊎ ((eqb v 0x54 ≡ true) × (Tick ≡ k))) → v ≡ kind_byte k
-by_kind {v} (inl p) = eqb-true v 0x4f p.0 ∙ ap kind_byte p.1
-by_kind {v} (inr (inl p)) = eqb-true v 0x53 p.0 ∙ ap kind_byte p.1
-by_kind {v} (inr (inr p)) = eqb-true v 0x54 p.0 ∙ ap kind_byte p.1
-
 kind_byte_lem : (v : ℕ) (k : Kind) → kind_of v ≡ Some k → v ≡ kind_byte k
-kind_byte_lem v k e = by_kind (kind_tests (eqb v 0x4f) (eqb v 0x53) (eqb v 0x54) k e)
+kind_byte_lem v Offer e = grind (arith, nat_tests)
+kind_byte_lem v Strike e = grind (arith, nat_tests)
+kind_byte_lem v Tick e = grind (arith, nat_tests)
 
 -- what a reader says of 24 bytes of a kind, none of them forbidden
 pub only_form : (k : Kind) (b : List ℕ) → length b ≡ 24 → ((i : ℕ) → get_or b i 0 < 256) → Some k ≡ kind_of (get_or b 0 0) → None ≡ first_forbidden k 1 (drop 1 b) → (c : Content) → c ≡ content k b → OnlyForm (Ok (Some c)) b

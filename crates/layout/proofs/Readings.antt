@@ -1,6 +1,7 @@
 -- What the reader answers, and where it is afterwards, by what remains of the input.
 use Rattle.std.proofs.Common.{◌≡◌, ℕ, ◌+◌, ◌-◌, ◌<◌, ◌≤◌, false, eqb, ltb, List, length, get_or, take, drop, Some, None, Ok, Err, Option, Result, sym, ap, ◌∙◌, subst, arith}
 use Rattle.std.proofs.lemmas.Bool.{cond-true, cond-false, eq-eqb, ne_eqb, lt-ltb, le-ltb}
+use Rattle.std.proofs.lemmas.Bool.Decides.{nat_tests}
 use Rattle.layout.specs.declared.fault.ReadFault.{ReadFault}
 use Rattle.layout.specs.declared.fault.ReadFault.TheVariants.{Cut}
 use Rattle.layout.specs.declared.kind.Kind.{Kind}
@@ -9,40 +10,29 @@ use Rattle.layout.specs.Content.{Content}
 use Rattle.layout.specs.Layout.{kind_of, first_forbidden}
 use Rattle.layout.specs.Reading.{content, unless_forbidden, parsed_as, parsed, one, read_at, place_after}
 use Rattle.layout.specs.RoundTrip.{OnlyForm}
-use Rattle.layout.proofs.Differ.{differ}
 
 module _ (s : List ℕ) (p : ℕ) where
   pub read_end : length s ≤ p → read_at s p ≡ Ok None
-  read_end h = cond-true (eqb (length s - p) 0) _ _ (eq-eqb (length s - p) 0 (omega arith))
-
-  more_left : p < length s → eqb (length s - p) 0 ≡ false
-  more_left h = ne_eqb (length s - p) 0 (λ z. omega arith)
+  read_end h = grind (arith, nat_tests)
 
   pub read_cut : p < length s → length s < p + 24 → read_at s p ≡ Err (Cut p)
-  read_cut h k = cond-false (eqb (length s - p) 0) _ _ (more_left h) ∙ cond-true (ltb (length s - p) 24) _ _ (lt-ltb (length s - p) 24 (omega arith))
+  read_cut h k = grind (arith, nat_tests)
 
   pub read_whole : p + 24 ≤ length s → read_at s p ≡ one (parsed p (part p 24 s))
-  read_whole h = cond-false (eqb (length s - p) 0) _ _ (more_left (omega arith)) ∙ cond-false (ltb (length s - p) 24) _ _ (le-ltb (length s - p) 24 (omega arith))
+  read_whole h = grind (arith, nat_tests)
 
   pub stays : length s < p + 24 → p ≤ length s → place_after s p ≡ p
-  stays h k = cond-true (ltb (length s - p) 24) p (p + 24) (lt-ltb (length s - p) 24 (omega arith))
+  stays h k = grind (arith, nat_tests)
 
   pub moves_on : p + 24 ≤ length s → place_after s p ≡ p + 24
-  moves_on h = cond-false (ltb (length s - p) 24) p (p + 24) (le-ltb (length s - p) 24 (omega arith))
-
-  -- the same of a part of m bytes, where m is 24
-  pub reads_part : (m : ℕ) (r : Result Content ReadFault) → m ≡ 24 → p + 24 ≤ length s → r ≡ parsed p (take m (drop p s)) → one r ≡ read_at s p
-  reads_part m r e l h = ap one (h ∙ ap (λ k. parsed p (take k (drop p s))) e) ∙ sym (read_whole l)
-
-  pub only_part : (m : ℕ) (r : Result (Option Content) ReadFault) → m ≡ 24 → OnlyForm r (take m (drop p s)) → OnlyForm r (part p 24 s)
-  only_part m r e h = subst (λ k. OnlyForm r (take k (drop p s))) e h
+  moves_on h = grind (arith, nat_tests)
 
 not_cut_unless : (p : ℕ) (c : Content) (o : Option ℕ) (at : ℕ) → unless_forbidden p o c ≡ Err (Cut at) → ⊥
-not_cut_unless p c None at e = differ (cc)
-not_cut_unless p c (Some i) at e = differ (cc)
+not_cut_unless p c None at e = cc
+not_cut_unless p c (Some i) at e = cc
 
 not_cut_as : (p : ℕ) (b : List ℕ) (k : Option Kind) (at : ℕ) → parsed_as p b k ≡ Err (Cut at) → ⊥
-not_cut_as p b None at e = differ (cc)
+not_cut_as p b None at e = cc
 not_cut_as p b (Some k) at e = not_cut_unless p (content k b) (first_forbidden k 1 (drop 1 b)) at e
 
 -- a whole record is not cut

@@ -2,6 +2,7 @@
 use Rattle.std.proofs.Common.{◌≡◌, ℕ, ◌+◌, ◌^◌, ◌<◌, ◌≤◌, Bool, true, false, cond, ltb, List, [], ◌∷◌, ◌++◌, length, take, drop, None, Ok, Err, Result, sym, refl, ap, ◌∙◌, subst, arith}
 use Rattle.std.proofs.lemmas.List.{take_all, take_at, drop_at, length-append}
 use Rattle.std.proofs.lemmas.Bool.{cond-true, cond-false, le-ltb, ltb-false, and_parts}
+use Rattle.std.proofs.lemmas.Bool.Decides.{nat_tests}
 use Rattle.layout.specs.declared.fault.WriteFault.{WriteFault}
 use Rattle.layout.specs.declared.fault.WriteFault.TheVariants.{Field}
 use Rattle.layout.specs.declared.fault.WrittenField.TheVariants.{Arrival, Deadline, Label}
@@ -15,19 +16,10 @@ use Rattle.layout.specs.Writing.{checked, checked_offer, encoded, encoded_by, ro
 use Rattle.layout.proofs.BigEndian.{number-bytes}
 use Rattle.layout.proofs.Labels.{label_parts}
 use Rattle.layout.proofs.Readings.{read_whole}
-use Rattle.layout.proofs.Differ.{differ}
-
-tests : (p q r : Bool) → ◌≡◌ {A = Result (Unit {0}) WriteFault} (cond p (Err (Field Arrival)) (cond q (Err (Field Deadline)) (cond r (Ok tt) (Err (Field Label))))) (Ok tt) → (p ≡ false) × (q ≡ false) × (r ≡ true)
-tests true q r e = absurd (differ (cc))
-tests false true r e = absurd (differ (cc))
-tests false false false e = absurd (differ (cc))
-tests false false true e = (refl, refl, refl)
 
 -- what an offer that is not refused has
 pub offer_parts : (a d : ℕ) (l : List ℕ) → checked_offer a d l ≡ Ok tt → (a < 2 ^ 48) × (d < 2 ^ 48) × (is_label l ≡ true)
-offer_parts a d l e =
-    let t = tests (ltb 0xffff_ffff_ffff a) (ltb 0xffff_ffff_ffff d) (is_label l) e in
-    (omega (arith, ltb-false 0xffff_ffff_ffff a t.0), omega (arith, ltb-false 0xffff_ffff_ffff d t.1), t.2)
+offer_parts a d l e = (grind (arith, nat_tests), grind (arith, nat_tests), grind (arith, nat_tests))
 
 label_allowed : (l : List ℕ) (i : ℕ) → 18 ≤ i → all_printable l ≡ true → first_forbidden Offer i l ≡ None
 label_allowed [] i h e = refl
@@ -61,7 +53,7 @@ written_reads x h before after =
 
 encoded_by_lem : (r : Result (Unit {0}) WriteFault) (b bs : List ℕ) → Ok bs ≡ encoded_by r b → (r ≡ Ok tt) × (bs ≡ b)
 encoded_by_lem (Ok u) b bs e = (refl, cc)
-encoded_by_lem (Err f) b bs e = absurd (differ (cc))
+encoded_by_lem (Err f) b bs e = cc
 
 -- a record whose bytes bs were made, written where there is room
 module _ (x : Content) (s bs : List ℕ) (made : Ok bs ≡ encoded_by (checked x) (encoded x)) (room : 24 ≤ length s) where
