@@ -3,8 +3,9 @@ use Rattle.std.proofs.Common.{◌≡◌, ℕ, zero, suc, ◌+◌, ◌/◌, ◌%�
 use native.Mathlib.Nat.{div-div-eq-div-mul}
 use Rattle.std.specs.List.{range_with_len}
 use Rattle.std.proofs.lemmas.List.FromFn.{fill_by_all}
-use Rattle.std.proofs.lemmas.Int.Digits.{number_push, number_more}
-use Rattle.std.proofs.lemmas.List.{take_more}
+use Rattle.std.proofs.lemmas.Int.Digits.{number_push, number_more, number_lt}
+use Rattle.std.proofs.lemmas.List.{take_more, length-take-le}
+use Rattle.std.proofs.lemmas.List.Elements.{All-from_get_or, All-take, recursion_from_All}
 use Rattle.layout.specs.BigEndian.{number, bytes}
 
 -- a list of known length, place by place
@@ -40,9 +41,7 @@ bytes-number bs u (suc k) h =
 
 -- k bytes hold a number below 256 ^ k
 pub number_fits : (bs : List ℕ) → ((i : ℕ) → get_or bs i 0 < 256) → (k : ℕ) → k ≤ length bs → number (take k bs) < 256 ^ k
-number_fits bs u zero h = omega arith
-number_fits bs u (suc k) h =
-    let p = pow-suc 256 k in
-    let s : suc k ≡ k + 1 = omega arith in
-    let e = ap (λ n. number (take n bs)) s in
-    omega (arith, e, number_more 256 bs k (omega arith), u k, number_fits bs u k (omega arith))
+number_fits bs u k h =
+    let small = All-from_get_or (λ d. d < 256) bs 0 (λ i q. u i) in
+    let below = number_lt 256 (take k bs) (recursion_from_All (λ d. d < 256) (take k bs) (All-take (λ d. d < 256) k bs small)) in
+    rw length-take-le at below

@@ -1,8 +1,10 @@
 -- The label of a record that was read is text: its bytes are below 128.
-use Rattle.std.proofs.Common.{◌≡◌, ℕ, ◌-◌, true, eqb, leb, List, [], ◌∷◌, length, Some, None, Ok, Err, IsAscii, Option, Result, ◌∙◌, subst, arith}
+use Rattle.std.proofs.Common.{◌≡◌, ℕ, ◌<◌, ◌-◌, true, eqb, List, [], ◌∷◌, length, Some, None, Ok, Err, IsAscii, Option, Result, ◌∙◌, subst, arith}
 use Rattle.std.specs.List.{suffix_len}
-use Rattle.std.proofs.lemmas.Str.Ascii.{IsAscii-nil, IsAscii-cons}
-use Rattle.std.proofs.lemmas.Bool.{and_parts, leb-true}
+use Rattle.std.proofs.lemmas.Str.Ascii.{IsAscii-from_all}
+use Rattle.std.proofs.lemmas.List.Elements.{All-weaker}
+use Rattle.std.proofs.lemmas.List.Sums.{AllPass-from_list_all}
+use Rattle.std.proofs.lemmas.Bool.Decides.{nat_tests}
 use Rattle.std.proofs.lemmas.Str.{IsAscii-take}
 use Rattle.layout.specs.declared.fault.ReadFault.{ReadFault}
 use Rattle.layout.specs.Content.{Content, offer, strike, tick}
@@ -13,11 +15,7 @@ use Rattle.layout.proofs.Labels.{label_parts}
 use Rattle.layout.proofs.WrittenReads.{offer_parts}
 
 ascii_printable : (l : List ℕ) → all_printable l ≡ true → IsAscii l
-ascii_printable [] e = IsAscii-nil
-ascii_printable (b ∷ l) e =
-    let p = and_parts (printable b) (all_printable l) e in
-    let q = and_parts (leb 0x20 b) (leb b 0x7e) p.0 in
-    IsAscii-cons b l (omega (arith, leb-true b 0x7e q.1)) (ascii_printable l p.1)
+ascii_printable l e = IsAscii-from_all l (All-weaker (λ b. printable b ≡ true) (λ b. b < 128) (λ b p. grind (arith, nat_tests)) l (AllPass-from_list_all printable l e))
 
 ascii_label : (x : Content) (t a d w : ℕ) (l : List ℕ) → Writable x → bare x ≡ offer t a d w l → IsAscii l
 ascii_label (offer u b e v m) t a d w l h q =

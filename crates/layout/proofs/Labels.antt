@@ -1,11 +1,10 @@
 -- Facts on labels.
-use Rattle.std.proofs.Common.{◌≡◌, ℕ, zero, suc, ◌+◌, ◌-◌, ◌<◌, ◌≤◌, Bool, true, false, cond, ◌&&◌, eqb, List, [], ◌∷◌, reverse, length, get_or, drop, sym, refl, ap, ◌∙◌, ⊎_elim, arith}
-use Rattle.std.specs.List.{suffix_len, prefix_len}
-use Rattle.std.proofs.lemmas.List.{at_drop_more, length-take-le, get_or-take, get_or-reverse, ext_get_or}
+use Rattle.std.proofs.Common.{◌≡◌, ℕ, ◌-◌, ◌<◌, ◌≤◌, Bool, true, eqb, List, reverse, length, get_or, sym, ap, ◌∙◌, ⊎_elim, arith}
+use Rattle.std.specs.List.{suffix_len}
+use Rattle.std.proofs.lemmas.List.{length-take-le, get_or-take, get_or-reverse, ext_get_or}
 use Rattle.std.proofs.lemmas.List.Sums.{suffix_len-le-length, prefix_len_passes}
-use Rattle.std.proofs.lemmas.Bool.{eq-eqb, eqb-true, and_parts, cases_lt}
+use Rattle.std.proofs.lemmas.Bool.{eqb-true, cases_lt}
 use Rattle.std.proofs.lemmas.Bool.Decides.{nat_tests}
-use Rattle.layout.specs.Layout.{printable}
 use Rattle.layout.specs.Label.{trimmed, all_printable, is_label}
 
 pub label_is : (l : List ℕ) (b : Bool) → length l ≡ 6 → all_printable l ≡ b → is_label l ≡ b

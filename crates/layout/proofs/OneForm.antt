@@ -1,7 +1,7 @@
 -- An accepted record has one written form.
-use Rattle.std.proofs.Common.{◌≡◌, ℕ, zero, suc, ◌+◌, ◌-◌, ◌^◌, ◌<◌, ◌≤◌, Bool, true, false, cond, ◌&&◌, ◌||◌, eqb, ltb, leb, ◌⊎◌, List, [], ◌∷◌, ◌++◌, length, get_or, drop, replicate, Some, None, Ok, Option, sym, refl, ap, ◌∙◌, subst, inl, inr, arith}
+use Rattle.std.proofs.Common.{◌≡◌, ℕ, zero, suc, ◌+◌, ◌-◌, ◌^◌, ◌<◌, ◌≤◌, true, false, ◌&&◌, ltb, leb, List, [], ◌∷◌, ◌++◌, length, get_or, drop, replicate, Some, None, Ok, sym, refl, ap, ◌∙◌, subst, arith}
 use Rattle.std.proofs.lemmas.List.{length-drop, length-take-le, length-replicate, get_or-drop, get_or-take, get_or-replicate, ext_get_or}
-use Rattle.std.proofs.lemmas.Bool.{cond-true, cond-false, le-ltb, lt-ltb, eqb-true, and_from, and_right}
+use Rattle.std.proofs.lemmas.Bool.{le-ltb, eqb-true, and_right}
 use Rattle.std.proofs.lemmas.Bool.Decides.{nat_tests}
 use Rattle.std.proofs.lemmas.List.Elements.{All-from_get_or}
 use Rattle.std.proofs.lemmas.List.Sums.{list_all-from_AllPass}
@@ -9,7 +9,7 @@ use Rattle.layout.specs.declared.kind.Kind.{Kind}
 use Rattle.layout.specs.declared.kind.Kind.TheVariants.{Offer, Strike, Tick}
 use Rattle.layout.specs.BigEndian.{number, bytes, part}
 use Rattle.layout.specs.Content.{Content, offer, strike, tick}
-use Rattle.layout.specs.Label.{all_printable, is_label}
+use Rattle.layout.specs.Label.{is_label}
 use Rattle.layout.specs.Layout.{ticket_of, arrival_of, deadline_of, work_of, label_of, kind_byte, kind_of, printable, numbers_end, label_allows, allows, first_forbidden}
 use Rattle.layout.specs.Reading.{content}
 use Rattle.layout.specs.RoundTrip.{bare, Writable, OnlyForm}
@@ -18,15 +18,11 @@ use Rattle.layout.proofs.BigEndian.{spelt_out, bytes-number, number_fits}
 use Rattle.layout.proofs.Labels.{label_is, label_parts, same_from_trimmed}
 use Rattle.layout.proofs.WrittenReads.{offer_parts}
 
-passed : (v : Bool) (o : Option ℕ) (i : ℕ) → cond v o (Some i) ≡ None → (v ≡ true) × (o ≡ None)
-passed true o i e = (refl, e)
-passed false o i e = cc
-
 -- where no place is forbidden, each is allowed
 none_forbidden : (k : Kind) (i : ℕ) (bs : List ℕ) → first_forbidden k i bs ≡ None → (j m : ℕ) → m ≡ i + j → j < length bs → allows k m (get_or bs j 0) ≡ true
 none_forbidden k i [] e j m q h = absurd (omega arith)
-none_forbidden k i (b ∷ bs) e zero m q h = let z : m ≡ i = omega arith in ap (λ n. allows k n b) z ∙ (passed (allows k i b) (first_forbidden k (i + 1) bs) i e).0
-none_forbidden k i (b ∷ bs) e (suc j) m q h = none_forbidden k (i + 1) bs (passed (allows k i b) (first_forbidden k (i + 1) bs) i e).1 j m (omega arith) (omega arith)
+none_forbidden k i (b ∷ bs) e zero m q h = grind (arith, nat_tests)
+none_forbidden k i (b ∷ bs) e (suc j) m q h = none_forbidden k (i + 1) bs (grind (arith, nat_tests)) j m (omega arith) (omega arith)
 
 zero_there : (k : Kind) (i v : ℕ) → i < 18 → (leb 2 i && ltb i (numbers_end k)) ≡ false → allows k i v ≡ true → v ≡ 0
 zero_there k i v h n e =
@@ -125,8 +121,9 @@ module _ (b : List ℕ) (long : length b ≡ 24) (small : (i : ℕ) → get_or b
   writable_whole Offer e f =
       let fits = part_fits Offer b long small e f in
       let label = label_whole e f in
-      let checks = cond-false (ltb 0xffff_ffff_ffff (arrival_of b)) _ _ (le-ltb _ _ (omega (arith, fits 4 6 (omega arith)))) ∙ cond-false (ltb 0xffff_ffff_ffff (deadline_of b)) _ _ (le-ltb _ _ (omega (arith, fits 10 6 (omega arith)))) ∙ cond-true (is_label (label_of b)) _ _ label in
-      ((fits 2 2 (omega arith), fits 16 2 (omega arith)), checks)
+      let arrival = fits 4 6 (omega arith) in
+      let deadline = fits 10 6 (omega arith) in
+      ((fits 2 2 (omega arith), fits 16 2 (omega arith)), grind (arith, nat_tests))
   writable_whole Strike e f = (part_fits Strike b long small e f 2 2 (omega arith), refl)
   writable_whole Tick e f = (tt, refl)
 

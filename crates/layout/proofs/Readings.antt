@@ -1,15 +1,12 @@
 -- What the reader answers, and where it is afterwards, by what remains of the input.
-use Rattle.std.proofs.Common.{◌≡◌, ℕ, ◌+◌, ◌-◌, ◌<◌, ◌≤◌, false, eqb, ltb, List, length, get_or, take, drop, Some, None, Ok, Err, Option, Result, sym, ap, ◌∙◌, subst, arith}
-use Rattle.std.proofs.lemmas.Bool.{cond-true, cond-false, eq-eqb, ne_eqb, lt-ltb, le-ltb}
+use Rattle.std.proofs.Common.{◌≡◌, ℕ, ◌+◌, ◌<◌, ◌≤◌, List, length, get_or, drop, Some, None, Ok, Err, Option, arith}
 use Rattle.std.proofs.lemmas.Bool.Decides.{nat_tests}
-use Rattle.layout.specs.declared.fault.ReadFault.{ReadFault}
 use Rattle.layout.specs.declared.fault.ReadFault.TheVariants.{Cut}
 use Rattle.layout.specs.declared.kind.Kind.{Kind}
 use Rattle.layout.specs.BigEndian.{part}
 use Rattle.layout.specs.Content.{Content}
 use Rattle.layout.specs.Layout.{kind_of, first_forbidden}
 use Rattle.layout.specs.Reading.{content, unless_forbidden, parsed_as, parsed, one, read_at, place_after}
-use Rattle.layout.specs.RoundTrip.{OnlyForm}
 
 module _ (s : List ℕ) (p : ℕ) where
   pub read_end : length s ≤ p → read_at s p ≡ Ok None

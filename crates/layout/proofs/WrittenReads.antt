@@ -1,18 +1,15 @@
 -- What is written reads back.
-use Rattle.std.proofs.Common.{◌≡◌, ℕ, ◌+◌, ◌^◌, ◌<◌, ◌≤◌, Bool, true, false, cond, ltb, List, [], ◌∷◌, ◌++◌, length, take, drop, None, Ok, Err, Result, sym, refl, ap, ◌∙◌, subst, arith}
+use Rattle.std.proofs.Common.{◌≡◌, ℕ, ◌+◌, ◌^◌, ◌<◌, ◌≤◌, true, List, [], ◌∷◌, ◌++◌, length, take, drop, None, Ok, Err, Result, sym, refl, ap, ◌∙◌, subst, arith}
 use Rattle.std.proofs.lemmas.List.{take_all, take_at, drop_at, length-append}
-use Rattle.std.proofs.lemmas.Bool.{cond-true, cond-false, le-ltb, ltb-false, and_parts}
 use Rattle.std.proofs.lemmas.Bool.Decides.{nat_tests}
 use Rattle.layout.specs.declared.fault.WriteFault.{WriteFault}
-use Rattle.layout.specs.declared.fault.WriteFault.TheVariants.{Field}
-use Rattle.layout.specs.declared.fault.WrittenField.TheVariants.{Arrival, Deadline, Label}
 use Rattle.layout.specs.declared.kind.Kind.TheVariants.{Offer}
 use Rattle.layout.specs.Content.{Content, offer, strike, tick}
 use Rattle.layout.specs.Label.{trimmed, is_label, all_printable}
-use Rattle.layout.specs.Layout.{printable, allows, first_forbidden}
+use Rattle.layout.specs.Layout.{first_forbidden}
 use Rattle.layout.specs.Reading.{content, unless_forbidden, parsed, one}
 use Rattle.layout.specs.RoundTrip.{Sized, bare, Writable, ReadsAs}
-use Rattle.layout.specs.Writing.{checked, checked_offer, encoded, encoded_by, room_for, write_of, written_by, written_into}
+use Rattle.layout.specs.Writing.{checked, checked_offer, encoded, encoded_by, write_of, written_by, written_into}
 use Rattle.layout.proofs.BigEndian.{number-bytes}
 use Rattle.layout.proofs.Labels.{label_parts}
 use Rattle.layout.proofs.Readings.{read_whole}
@@ -23,10 +20,7 @@ offer_parts a d l e = (grind (arith, nat_tests), grind (arith, nat_tests), grind
 
 label_allowed : (l : List ℕ) (i : ℕ) → 18 ≤ i → all_printable l ≡ true → first_forbidden Offer i l ≡ None
 label_allowed [] i h e = refl
-label_allowed (b ∷ l) i h e =
-    let p = and_parts (printable b) (all_printable l) e in
-    cond-true (allows Offer i b) _ _ (cond-false (ltb i 18) _ _ (le-ltb i 18 h) ∙ p.0)
-    ∙ label_allowed l (i + 1) (omega arith) p.1
+label_allowed (b ∷ l) i h e = let rest = label_allowed l (i + 1) (omega arith) in grind (arith, nat_tests)
 
 pub length-encoded : (x : Content) → checked x ≡ Ok tt → length (encoded x) ≡ 24
 length-encoded (offer t a d w l) e = omega (arith, (label_parts l (offer_parts a d l e).2).0)
@@ -58,7 +52,7 @@ encoded_by_lem (Err f) b bs e = cc
 -- a record whose bytes bs were made, written where there is room
 module _ (x : Content) (s bs : List ℕ) (made : Ok bs ≡ encoded_by (checked x) (encoded x)) (room : 24 ≤ length s) where
   pub write_accepts : Ok tt ≡ write_of x s
-  write_accepts = sym (ap (room_for s) (encoded_by_lem (checked x) (encoded x) bs made).0 ∙ cond-false (ltb (length s) 24) _ _ (le-ltb (length s) 24 room))
+  write_accepts = let e = encoded_by_lem (checked x) (encoded x) bs made in grind (arith, nat_tests)
 
   pub write_fills : (ys : List ℕ) → ys ≡ bs → ys ++ drop 24 s ≡ written_into x s
   write_fills ys e = ap (λ b. b ++ drop 24 s) (e ∙ (encoded_by_lem (checked x) (encoded x) bs made).1) ∙ ap (λ r. written_by r (encoded x) s) write_accepts
