@@ -1,17 +1,14 @@
 -- The search for a forbidden byte.
-use Rattle.std.proofs.Common.{◌≡◌, ℕ, ◌+◌, ◌<◌, true, false, not, cond, List, [], ◌∷◌, length, drop, Some, refl, arith}
+use Rattle.std.proofs.Common.{◌≡◌, ℕ, ◌+◌, ◌<◌, not, List, [], ◌∷◌, length, drop, Some, refl, arith}
 use Rattle.std.specs.List.{find, enumerate_from}
 use Rattle.std.specs.Option.{option_map}
+use Rattle.std.proofs.lemmas.Bool.Decides.{nat_tests}
 use Rattle.layout.specs.declared.kind.Kind.{Kind}
 use Rattle.layout.specs.Layout.{allows, first_forbidden}
 
 find-enumerate : (k : Kind) (i : ℕ) (bs : List ℕ) → option_map (λ p. p.0) (find (λ p. not (allows k p.0 p.1)) (enumerate_from i bs)) ≡ first_forbidden k i bs
 find-enumerate k i [] = refl
-find-enumerate k i (b ∷ bs) =
-    elim (allows k i b) as (λ v. option_map (λ p. p.0) (cond (not v) (Some (i, b)) (find (λ p. not (allows k p.0 p.1)) (enumerate_from (i + 1) bs))) ≡ cond v (first_forbidden k (i + 1) bs) (Some i)) [
-      | true ↦ find-enumerate k (i + 1) bs
-      | false ↦ refl
-    ]
+find-enumerate k i (b ∷ bs) = let rest = find-enumerate k (i + 1) bs in grind (arith, nat_tests)
 
 -- the first forbidden place, of bytes that are taken with their places
 pub find_forbidden : (k : Kind) (bs : List ℕ) → option_map (λ p. p.0) (find (λ p. not (allows k p.0 p.1)) (drop 1 (enumerate_from 0 bs))) ≡ first_forbidden k 1 (drop 1 bs)
@@ -21,9 +18,4 @@ find_forbidden k (b ∷ bs) = find-enumerate k 1 bs
 -- a forbidden place lies among the bytes looked at
 pub forbidden_within : (k : Kind) (i : ℕ) (bs : List ℕ) (j : ℕ) → Some j ≡ first_forbidden k i bs → j < i + length bs
 forbidden_within k i [] j e = cc
-forbidden_within k i (b ∷ bs) j e =
-    elim (allows k i b) as (λ v. Some j ≡ cond v (first_forbidden k (i + 1) bs) (Some i) → j < i + length (b ∷ bs)) [
-      | true ↦ λ p. omega (arith, forbidden_within k (i + 1) bs j p)
-      | false ↦ λ p. let q : j ≡ i = cc in omega arith
-    ]
-    e
+forbidden_within k i (b ∷ bs) j e = let rest = forbidden_within k (i + 1) bs j in grind (arith, nat_tests, rest)
