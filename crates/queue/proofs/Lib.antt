@@ -1,6 +1,5 @@
 mod Ranks
-mod Moving
 mod Steps
-mod Holes
+mod Sifting
 mod Pinned
-mod Filling
+mod Taking

@@ -1,15 +1,13 @@
 -- Where no two elements have the same rank, just one has none before it.
-use Rattle.std.proofs.Common.{◌≡◌, ℕ, ◌<◌, Bool, false, List, [], ◌∷◌, length, get_or, Some, sym, refl, ap, ◌∙◌, inl, inr, arith}
+use Rattle.std.proofs.Common.{◌≡◌, ℕ, ◌<◌, Bool, false, List, [], ◌∷◌, length, get_or, Some, sym, ap, ◌∙◌, inl, inr, arith}
 use Rattle.std.specs.Cmp.{IsStrictWeakOrder}
 use Rattle.std.specs.List.{ContainsAt, AllByRecursion}
 use Rattle.std.proofs.lemmas.List.MinMax.{IsFirstBest-from_best_of}
-use Rattle.std.proofs.ByRecursion.{All-get_or, has_shuffled}
-use Rattle.std.proofs.lemmas.List.Sorted.{IsPermutation-sym}
+use Rattle.std.proofs.ByRecursion.{All-get_or}
 use Rattle.std.proofs.lemmas.Bool.{cases_lt}
 use Rattle.std.proofs.lemmas.Bool.Decides.{nat_tests}
 use Rattle.queue.specs.Order.{JustOne}
-use Rattle.queue.specs.Slots.{Slots, held}
-use Rattle.queue.specs.Says.{Removed, NoTies, least}
+use Rattle.queue.specs.Says.{NoTies, least}
 
 module _ {X : Type 0} {before : X → X → Bool} (same : X → X → Bool) (one : (x y : X) → JustOne (before x y) (same x y) (before y x)) (o : IsStrictWeakOrder before) where
   -- two elements that none is before stand at one place
@@ -25,7 +23,7 @@ module _ {X : Type 0} {before : X → X → Bool} (same : X → X → Bool) (one
     ]
   ]
 
-  is_least : (xs : List X) (x : X) → ContainsAt xs x → AllByRecursion (λ y. before y x ≡ false) xs → NoTies same xs → Some x ≡ least before xs
+  pub is_least : (xs : List X) (x : X) → ContainsAt xs x → AllByRecursion (λ y. before y x ≡ false) xs → NoTies same xs → Some x ≡ least before xs
   is_least [] x has none apart = absurd (omega (arith, has.1))
   is_least (a ∷ rest) x has none apart =
       let xs = a ∷ rest in
@@ -36,6 +34,3 @@ module _ {X : Type 0} {before : X → X → Bool} (same : X → X → Bool) (one
       let ij : before (get_or xs i a) (get_or xs j a) ≡ false = rw ex (All-get_or (λ y. before y x ≡ false) xs i a b.1.0 none) in
       let e : i ≡ j = one_place xs i j a b.1.0 has.1 apart ij (b.1.1 j a has.1) in
       ap Some (sym ex ∙ (ap (λ k. get_or xs k a) (sym e) ∙ b.2))
-
-  pub pinned : (x : X) (q r : Slots X) → Removed before x q r → NoTies same (held q) → Some x ≡ least before (held q)
-  pinned x q r t apart = is_least (held q) x (has_shuffled _ _ x (IsPermutation-sym _ _ t.holds) (0, omega arith, λ d. refl)) t.least apart

@@ -10,8 +10,8 @@ abbrev pub Ordered : {X : Type 0} → (X → X → Bool) → (ℕ → X) → ℕ
 Ordered before f n = (p k : ℕ) → Child p k → k < n → before (f k) (f p) ≡ false
 
 -- the same with some pairs left out, and across i
-abbrev But : {X : Type 0} → (X → X → Bool) → (ℕ → ℕ → Type 0) → (ℕ → X) → ℕ → ℕ → Type 0
-But before out f n i =
+abbrev pub OrderedExcept : {X : Type 0} → (X → X → Bool) → (ℕ → ℕ → Type 0) → (ℕ → X) → ℕ → ℕ → Type 0
+OrderedExcept before out f n i =
     ((p k : ℕ) → Child p k → k < n → (out p k → ⊥) → before (f k) (f p) ≡ false)
     × ((p k : ℕ) → Child p i → Child i k → k < n → before (f k) (f p) ≡ false)
 
@@ -19,7 +19,7 @@ module _ {X : Type 0} (before : X → X → Bool) (o : IsStrictWeakOrder before)
   at : (g : ℕ → X) (k k' p p' : ℕ) → k ≡ k' → p ≡ p' → (x y : X) → g k' ≡ x → g p' ≡ y → before x y ≡ false → before (g k) (g p) ≡ false
   at g k k' p p' e e' x y h h' r = cc
 
-  pub up_step : (f g : ℕ → X) (n i p : ℕ) → But before (λ _ k. k ≡ i) f n i → Child p i → i < n → before (f i) (f p) ≡ true → Swapped f g i p → But before (λ _ k. k ≡ p) g n p
+  pub up_step : (f g : ℕ → X) (n i p : ℕ) → OrderedExcept before (λ _ k. k ≡ i) f n i → Child p i → i < n → before (f i) (f p) ≡ true → Swapped f g i p → OrderedExcept before (λ _ k. k ≡ p) g n p
   up_step f g n i p u ch il b s =
       let pi : before (f p) (f i) ≡ false = o.one_way (f i) (f p) b in (
         (λ q k c kl ne. elim (cases_eq k i) [
@@ -47,16 +47,16 @@ module _ {X : Type 0} (before : X → X → Bool) (o : IsStrictWeakOrder before)
             ]),
       )
 
-  pub up_top : (f : ℕ → X) (n i : ℕ) → But before (λ _ k. k ≡ i) f n i → i ≡ 0 → Ordered before f n
+  pub up_top : (f : ℕ → X) (n i : ℕ) → OrderedExcept before (λ _ k. k ≡ i) f n i → i ≡ 0 → Ordered before f n
   up_top f n i u e p k c kl = u.0 p k c kl (omega arith)
 
-  pub up_done : (f : ℕ → X) (n i p : ℕ) → But before (λ _ k. k ≡ i) f n i → Child p i → before (f i) (f p) ≡ false → Ordered before f n
+  pub up_done : (f : ℕ → X) (n i p : ℕ) → OrderedExcept before (λ _ k. k ≡ i) f n i → Child p i → before (f i) (f p) ≡ false → Ordered before f n
   up_done f n i p u ch b q k c kl = elim (cases_eq k i) [
     | inl e ↦ let e' : q ≡ p = omega arith in at f k i q p e e' (f i) (f p) refl refl b
     | inr ni ↦ u.0 q k c kl ni
   ]
 
-  pub down_step : (f g : ℕ → X) (n i m : ℕ) → But before (λ p _. p ≡ i) f n i → Child i m → m < n → before (f m) (f i) ≡ true → ((k : ℕ) → Child i k → k < n → before (f k) (f m) ≡ false) → Swapped f g i m → But before (λ p _. p ≡ m) g n m
+  pub down_step : (f g : ℕ → X) (n i m : ℕ) → OrderedExcept before (λ p _. p ≡ i) f n i → Child i m → m < n → before (f m) (f i) ≡ true → ((k : ℕ) → Child i k → k < n → before (f k) (f m) ≡ false) → Swapped f g i m → OrderedExcept before (λ p _. p ≡ m) g n m
   down_step f g n i m u ch ml b least s =
       let im : before (f i) (f m) ≡ false = o.one_way (f m) (f i) b in (
         (λ q k c kl nqm. elim (cases_eq q i) [
@@ -82,7 +82,7 @@ module _ {X : Type 0} (before : X → X → Bool) (o : IsStrictWeakOrder before)
             at g k k q i refl e (f k) (f m) (s.2 k nki nkm) s.0 (u.0 m k ck kl nmi)),
       )
 
-  pub down_done : (f : ℕ → X) (n i : ℕ) → But before (λ p _. p ≡ i) f n i → ((k : ℕ) → Child i k → k < n → before (f k) (f i) ≡ false) → Ordered before f n
+  pub down_done : (f : ℕ → X) (n i : ℕ) → OrderedExcept before (λ p _. p ≡ i) f n i → ((k : ℕ) → Child i k → k < n → before (f k) (f i) ≡ false) → Ordered before f n
   down_done f n i u b q k c kl = elim (cases_eq q i) [
     | inl e ↦ let c' : Child i k = (omega arith, omega arith) in at f k k q i refl e (f k) (f i) refl refl (b k c' kl)
     | inr nq ↦ u.0 q k c kl nq

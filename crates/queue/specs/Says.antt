@@ -1,11 +1,10 @@
 -- What a put and a take answer, and what is held afterwards.
-use Rattle.std.specs.Prelude.{◌≡◌, ℕ, ◌+◌, ◌<◌, Bool, true, false, cond, List, [], ◌∷◌, length, Some, None, Ok, Err, MatchBool, Option, Result, nat_lt, slice_index_or}
+use Rattle.std.specs.Prelude.{◌≡◌, ℕ, ◌+◌, ◌<◌, Bool, false, cond, List, [], ◌∷◌, length, Some, None, Ok, Err, MatchBool, Option, Result, nat_lt, slice_index_or}
 use Rattle.std.specs.List.{best_of, AllByRecursion}
 use Rattle.std.specs.List.Sorted.{IsPermutation}
 use Rattle.queue.specs.declared.fault.QueueFault.{QueueFault}
 use Rattle.queue.specs.declared.fault.QueueFault.TheVariants.{Full}
 use Rattle.queue.specs.Slots.{Slots, held}
-use Rattle.queue.specs.Tree.{IsHeap}
 
 -- x is held besides what was held
 pub record Added {X : Type 0} (x : X) (q r : Slots X) : Type 0 where
@@ -23,16 +22,6 @@ pub record Removed {X : Type 0} (before : X → X → Bool) (x : X) (q r : Slots
 -- whether a slot is free
 abbrev pub has_room : {X : Type 0} → Slots X → Bool
 has_room q = nat_lt q.count (length q.places)
-
--- r is q with its first free slot, at the place `hole`, counted as filled
-pub record Claimed {X : Type 0} (hole : ℕ) (q r : Slots X) : Type 0 where
-  pub room : has_room q ≡ true
-  pub at : hole ≡ q.count
-  pub is : r ≡ record { places = q.places; count = q.count + 1 }
-
-abbrev pub ClaimSays : {X : Type 0} → Slots X → Slots X → Option ℕ → Type 0
-ClaimSays q r None = (has_room q ≡ false) × (r ≡ q)
-ClaimSays q r (Some hole) = Claimed hole q r
 
 -- a put adds the element where a slot is free, and leaves all as it was elsewhere
 abbrev pub PutLeaves : {X : Type 0} → X → Slots X → Slots X → Type 0
@@ -64,12 +53,3 @@ TakeLeaves before q r (Some x) = Removed before x q r
 pub record TakeSays {X : Type 0} (before same : X → X → Bool) (q r : Slots X) (answer : Option X) : Type 0 where
   pub leaves : TakeLeaves before q r answer
   pub pinned : NoTies same (held q) → answer ≡ least before (held q)
-
--- r is a heap where q was one
-pub record Keeps {X : Type 0} (before : X → X → Bool) (q r : Slots X) : Type 0 where
-  pub heap : IsHeap before q → IsHeap before r
-
--- a take from a heap says what it should, and leaves a heap
-pub record HeapTakes {X : Type 0} (before same : X → X → Bool) (q r : Slots X) (answer : Option X) : Type 0 where
-  pub says : IsHeap before q → TakeSays before same q r answer
-  pub keeps : Keeps before q r

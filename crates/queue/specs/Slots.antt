@@ -1,6 +1,7 @@
 -- The slots of a queue, of which the first `count` are filled.
 use Rattle.std.specs.Prelude.{ℕ, List, take}
 use Rattle.queue.specs.declared.heap.Queue.{Queue}
+use Rattle.queue.specs.declared.order.Rank.{Ghosts}
 
 pub record Slots (X : Type 0) : Type 0 where
   pub places : List X
@@ -11,5 +12,5 @@ abbrev pub held : {X : Type 0} → Slots X → List X
 held q = take q.count q.places
 
 -- the slots of a queue of the code
-abbrev pub slots_of : {X : Type 0} → Queue X → Slots X
+abbrev pub slots_of : {X : Type 0} {R : Ghosts X} → Queue X R → Slots X
 slots_of q = record { places = q.slots.now; count = q.len }

@@ -1,10 +1,12 @@
 //! One priority queue for every kind of element that has a total order, in slots that the caller lends.
 //!
-//! `Rank` is the order, `Queue` the queue as a binary heap. `ReadyQueue` and `TickQueue` are the queue for the two kinds of
-//! elements of the governor, with the order of the heap as an invariant of their types:
+//! `Rank` is the order, `Queue` the queue as a binary heap, with the order of the heap as an invariant of its type. The governor
+//! has it for two kinds of elements:
 //!
-//! - a ready job, by deadline, then ticket;
-//! - a loaded tick, by the units placed in it so far, then tick.
+//! - `ReadyQueue`, of ready jobs, by deadline, then ticket;
+//! - `TickQueue`, of loaded ticks, by the units placed in them so far, then tick.
+//!
+//! `try_put` gives an element back that finds no free slot. `put` of these two refuses it by number.
 //!
 //! ```text
 //! let mut slots = [LoadedTick { units: 0, tick: 0 }; 256];

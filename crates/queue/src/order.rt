@@ -6,6 +6,7 @@ ghost use Rattle.queue.specs.Order.{JustOne};
 ///
 /// Of any two elements just one holds: the first is before the second, both have the same rank, or the second is before the
 /// first. Being before and having the same rank are both transitive.
+// Not std's `Ord`: it asks the order to agree with `==`, and a job's `place` plays a part in `==` and none in its rank.
 pub trait Rank: Copy {
     ghost before: { Self → Self → Bool };
 

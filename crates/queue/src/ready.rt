@@ -1,9 +1,6 @@
 // Ready jobs: the earliest deadline first, then the least ticket.
 ghost use Rattle.std.specs.Prelude.{◌≡◌};
 ghost use Rattle.queue.specs.Elements.{ready_before, ready_same};
-ghost use Rattle.queue.specs.Slots.{slots_of};
-ghost use Rattle.queue.specs.Tree.{Fits, HeapOrder};
-ghost use Rattle.queue.specs.Says.{PutLeaves, put_answer, TakeSays};
 ghost use Rattle.std.proofs.Common.{rules};
 
 use super::fault::QueueFault;
@@ -36,46 +33,21 @@ impl Rank for ReadyJob {
     }
 }
 
-/// A queue of ready jobs, in slots that the caller lends. Its slots are a heap at all times.
-#[derive(Drop)]
-pub struct ReadyQueue<'a> {
-    queue: Queue<'a, ReadyJob>,
-    ghost fits: { Fits (slots_of queue) },
-    ghost ordered: { HeapOrder ready_before (slots_of queue) },
-}
+/// A queue of ready jobs, in slots that the caller lends.
+pub type ReadyQueue<'a> = Queue<'a, ReadyJob>;
 
-impl<'a> ReadyQueue<'a> {
-    /// An empty queue in these slots.
-    pub fn new(slots: &'a mut [ReadyJob]) -> ReadyQueue<'a>
-        ensures empty { slots_of result.queue ≡ record { places = slots.old; count = 0 } }
-        ensures lender { result.queue.slots.ghost_name ≡ slots.entry.ghost_name }
-    {
-        ReadyQueue {
-            queue: Queue::new(slots),
-        }
-    }
+// `put` is not of every `Queue`: of elements of no size there can be 2^64 − 1 slots, and no `usize` counts one more.
+impl ReadyQueue<'_> {
+    ghost use Rattle.queue.specs.Slots.{slots_of};
+    ghost use Rattle.queue.specs.Says.{PutLeaves, put_answer};
 
     /// Adds a job, or refuses with 10 and the slots that would be needed where every slot is taken.
     pub fn put(&mut self, job: ReadyJob) -> Result<(), QueueFault>
-        ensures answer { result ≡ put_answer (slots_of self.old.queue) }
-        ensures after { PutLeaves job (slots_of self.old.queue) (slots_of self.new.queue) }
-        ensures lender { self.new.queue.slots.ghost_name ≡ self.old.queue.slots.ghost_name }
+        ensures answer { result ≡ put_answer (slots_of self.old) }
+        ensures after { PutLeaves job (slots_of self.old) (slots_of self.new) }
+        ensures lender { self.new.slots.ghost_name ≡ self.old.slots.ghost_name }
     {
-        match self.queue.put(job) {
-            Ok(()) => Ok(()),
-            Err(_) => {
-                Err(QueueFault::Full {
-                    needed: self.queue.slots.len() + 1,
-                })
-            }
-        }
-    }
-
-    /// Removes the job with the earliest deadline, of several the one with the least ticket; none where none is held.
-    pub fn take(&mut self) -> Option<ReadyJob>
-        ensures said { TakeSays ready_before ready_same (slots_of self.old.queue) (slots_of self.new.queue) result }
-        ensures lender { self.new.queue.slots.ghost_name ≡ self.old.queue.slots.ghost_name }
-    {
-        self.queue.take()
+        let needed = self.slots.len() + 1;
+        self.try_put(job).map_err(|_| QueueFault::Full { needed })
     }
 }

@@ -29,9 +29,9 @@ fn the_greatest_comes_first(rt: HostRuntime) {
     let mut slots = [Brightness(0); 3];
     let mut queue = Queue::new(&mut slots);
     for level in [40u8, 200, 90] {
-        assert_eq!(rt; queue.put(Brightness(level)), Ok(()));
+        assert_eq!(rt; queue.try_put(Brightness(level)), Ok(()));
     }
-    assert_eq!(rt; queue.put(Brightness(255)), Err(Brightness(255)));
+    assert_eq!(rt; queue.try_put(Brightness(255)), Err(Brightness(255)));
     for level in [200u8, 90, 40] {
         assert_eq!(rt; queue.take(), Some(Brightness(level)));
     }

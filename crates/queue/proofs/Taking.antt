@@ -1,0 +1,59 @@
+-- What a take of the first element of a heap says.
+use Rattle.std.proofs.Common.{◌≡◌, ℕ, ◌+◌, ◌<◌, ◌≤◌, Bool, false, List, [], ◌∷◌, ◌++◌, length, get_or, take, drop, Some, refl, sym, ap, ◌∙◌, length-append, length-drop, arith}
+use Rattle.std.specs.Cmp.{IsStrictWeakOrder}
+use Rattle.std.specs.List.{AllByRecursion}
+use Rattle.std.specs.List.Sorted.{IsPermutation}
+use Rattle.std.proofs.ByRecursion.{All-from_get_or}
+use Rattle.std.proofs.lemmas.List.{take_at, take_more, length-take-le, get_or-take, get_or_default}
+use Rattle.std.proofs.lemmas.List.Sorted.{IsPermutation-cons, IsPermutation-to_front, IsPermutation-trans, IsPermutation-refl, length_permutation}
+use Rattle.queue.specs.Order.{JustOne}
+use Rattle.queue.specs.Slots.{Slots, held}
+use Rattle.queue.specs.Tree.{HeapOrder}
+use Rattle.queue.specs.Says.{TakeSays}
+use Rattle.queue.proofs.Steps.{least_at_root}
+use Rattle.queue.proofs.Sifting.{from_heap}
+use Rattle.queue.proofs.Pinned.{is_least}
+
+starts : {X : Type 0} (s : List X) (d : X) → 0 < length s → s ≡ get_or s 0 d ∷ drop 1 s
+starts [] d some = absurd (omega arith)
+starts (x ∷ s) d some = refl
+
+-- of the m + 1 elements that q holds as a heap the first one leaves
+module _ {X : Type 0} {before : X → X → Bool} (same : X → X → Bool) (one : (x y : X) → JustOne (before x y) (same x y) (before y x)) (o : IsStrictWeakOrder before)
+    (q r : Slots X) (m : ℕ) (d : X) (fits : q.count ≤ length q.places) (ordered : HeapOrder before (held q)) (count : q.count ≡ m + 1) where
+  taken : r.count ≡ m → length r.places ≡ length q.places → IsPermutation (held q) (get_or q.places 0 d ∷ held r) → TakeSays before same q r (Some (get_or q.places 0 d))
+  taken left slots holds =
+      let x = get_or q.places 0 d in
+      let len : length (held q) ≡ q.count = length-take-le q.count q.places fits in
+      let some : 0 < length (held q) = omega (arith, len, count) in
+      let at_0 : (e : X) → get_or (held q) 0 e ≡ x = λ e. get_or_default (held q) 0 e d some ∙ get_or-take q.count q.places 0 d (omega (arith, count)) in
+      let least : AllByRecursion (λ y. before y x ≡ false) (held q) =
+      All-from_get_or (λ y. before y x ≡ false) (held q) d (λ k kl. rw (at_0 d) at (least_at_root before o (λ j. get_or (held q) j d) (length (held q)) (from_heap before (held q) ordered d) k kl)) in
+      record {
+        leaves = record { slots = slots; count = omega (arith, count, left); holds = holds; least = least };
+        pinned = is_least same one o (held q) x (0, some, at_0) least;
+      }
+
+  -- the last one takes its place, and the m that are left come in the order of h
+  pub first_taken : (e : X) (h : List X) → 0 < m → IsPermutation (get_or q.places m e ∷ drop 1 (take m q.places)) h → r ≡ record { places = h ++ drop m q.places; count = m } → TakeSays before same q r (Some (get_or q.places 0 d))
+  first_taken e h some p is =
+      let s = q.places in
+      let x = get_or s 0 d in
+      let y = get_or s m e in
+      let t = take m s in
+      let lt : length t ≡ m = length-take-le m s (omega (arith, count, fits)) in
+      let et : t ≡ x ∷ drop 1 t = starts t d (omega (arith, lt, some)) ∙ ap (λ z. z ∷ drop 1 t) (get_or-take m s 0 d some) in
+      let lh : length h ≡ m = length_permutation _ _ p ∙ (sym (ap length et) ∙ lt) in
+      let all : held q ≡ x ∷ (drop 1 t ++ y ∷ []) = ap (λ n. take n s) count ∙ (take_more s m e (omega (arith, count, fits)) ∙ ap (λ u. u ++ y ∷ []) et) in
+      let left : held r ≡ h = ap held is ∙ take_at h (drop m s) m lh in
+      taken (ap (λ v. v.count) is) (ap (λ v. length v.places) is ∙ omega (arith, length-append h (drop m s), length-drop m s, lh, count, fits))
+      (rw (all, left) (IsPermutation-cons x _ _ (IsPermutation-trans _ _ _ (IsPermutation-to_front (drop 1 t) y) p)))
+
+  -- it was the only one
+  pub only_taken : m ≤ 0 → r ≡ record { places = q.places; count = m } → TakeSays before same q r (Some (get_or q.places 0 d))
+  only_taken none is =
+      let s = q.places in
+      let m0 : m ≡ 0 = omega arith in
+      let all : held q ≡ get_or s 0 d ∷ [] = ap (λ n. take n s) count ∙ (ap (λ n. take (n + 1) s) m0 ∙ ap (take 1) (starts s d (omega (arith, count, fits)))) in
+      let left : held r ≡ [] = ap held is ∙ ap (λ n. take n s) m0 in
+      taken (ap (λ v. v.count) is) (ap (λ v. length v.places) is) (rw (all, left) (IsPermutation-refl _))
