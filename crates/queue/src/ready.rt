@@ -28,8 +28,7 @@ impl Rank for ReadyJob {
     ghost tied = { Prim.search rules };
 
     fn is_before(&self, other: &ReadyJob) -> bool {
-        self.deadline < other.deadline
-            || self.deadline == other.deadline && self.ticket < other.ticket
+        (self.deadline, self.ticket) < (other.deadline, other.ticket)
     }
 }
 

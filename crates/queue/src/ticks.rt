@@ -26,7 +26,7 @@ impl Rank for LoadedTick {
     ghost tied = { Prim.search rules };
 
     fn is_before(&self, other: &LoadedTick) -> bool {
-        self.units < other.units || self.units == other.units && self.tick < other.tick
+        (self.units, self.tick) < (other.units, other.tick)
     }
 }
 
