@@ -5,8 +5,8 @@ use std::process::Abort;
 use std::test::Fail;
 
 // Numbers by chance, the same in every run.
-fn next(r: u32) -> u32 {
-    r.wrapping_mul(1_664_525).wrapping_add(1_013_904_223)
+fn next(number: u32) -> u32 {
+    number.wrapping_mul(1_664_525).wrapping_add(1_013_904_223)
 }
 
 // `count` ticks with few different units go in, and come out as a sort of their pairs has them.
@@ -14,18 +14,17 @@ fn check_sorted(rt: &impl Abort, alloc: Global, count: usize, seed: u32) -> Resu
     assert!(rt; count <= 64);
     let mut slots = [LoadedTick { units: 0, tick: 0 }; 64];
     let mut queue = TickQueue::new(&mut slots);
-    let mut pairs = [(0u32, 0u16); 64];
-    let mut r = seed;
-    for i in 0..count {
-        r = next(r);
-        let units = (r >> 16) % 8;
-        let tick = ((r >> 20) & 0xff) as u16;
+    let mut pairs = Vec::new(alloc);
+    let mut number = seed;
+    for _ in 0..count {
+        number = next(number);
+        let units = (number >> 16) % 8;
+        let tick = ((number >> 20) & 0xff) as u16;
         assert_eq!(rt; queue.put(LoadedTick { units, tick }), Ok(()));
-        pairs[i] = (units, tick);
+        pairs.push((units, tick))?;
     }
-    (&mut pairs[0..count]).sort(alloc)?;
-    for i in 0..count {
-        let (units, tick) = pairs[i];
+    pairs.sort()?;
+    for (units, tick) in pairs {
         assert_eq!(rt; queue.take(), Some(LoadedTick { units, tick }));
     }
     assert_eq!(rt; queue.take(), None);
@@ -42,57 +41,47 @@ fn ticks_come_out_sorted(rt: HostRuntime) -> Result<(), Fail> {
     Ok(())
 }
 
-// The place of the job among the first `count` with the earliest deadline, then the least ticket.
-fn place_of_first(jobs: &[ReadyJob; 32], count: usize) -> usize {
-    let mut best = 0;
-    for i in 0..count.min(32) {
-        let a = jobs[i];
-        let b = jobs[best.min(31)];
-        if a.deadline < b.deadline || a.deadline == b.deadline && a.ticket < b.ticket {
-            best = i;
-        }
-    }
-    best
+// Removes the job with the earliest deadline, then the least ticket, from a plain list.
+fn take_first(list: &mut Vec<ReadyJob>) -> Option<ReadyJob> {
+    let first = list
+        .iter()
+        .copied()
+        .min_by_key(|job| (job.deadline, job.ticket))?;
+    list.retain(|job| *job != first);
+    Some(first)
 }
 
 // Puts and takes by chance, each answered as a plain list answers it. Tickets count up, so no two jobs have one rank.
-fn check_mixed(rt: &impl Abort, seed: u32) {
-    let none = ReadyJob {
+fn check_mixed(rt: &impl Abort, alloc: Global, seed: u32) -> Result<(), Fail> {
+    let mut slots = [ReadyJob {
         deadline: 0,
         ticket: 0,
         place: 0,
-    };
-    let mut slots = [none; 32];
+    }; 32];
     let mut queue = ReadyQueue::new(&mut slots);
-    let mut list = [none; 32];
-    let mut count = 0usize;
-    let mut r = seed;
+    let mut list = Vec::new(alloc);
+    let mut number = seed;
     for ticket in 0..400u16 {
-        r = next(r);
-        if (r >> 16) % 5 < 3 && count < 32 {
+        number = next(number);
+        if (number >> 16) % 5 < 3 && list.len() < 32 {
             let job = ReadyJob {
-                deadline: (r >> 24) as u64 % 6,
+                deadline: (number >> 24) as u64 % 6,
                 ticket,
-                place: ((r >> 8) & 0xff) as u8,
+                place: ((number >> 8) & 0xff) as u8,
             };
             assert_eq!(rt; queue.put(job), Ok(()));
-            list[count] = job;
-            count += 1;
-        } else if count == 0 {
-            assert_eq!(rt; queue.take(), None);
+            list.push(job)?;
         } else {
-            let first = place_of_first(&list, count);
-            assert!(rt; first < 32 && count <= 32);
-            assert_eq!(rt; queue.take(), Some(list[first]));
-            count -= 1;
-            list[first] = list[count];
+            assert_eq!(rt; queue.take(), take_first(&mut list));
         }
     }
+    Ok(())
 }
 
 #[test]
-fn jobs_come_out_as_from_a_plain_list(rt: HostRuntime) {
+fn jobs_come_out_as_from_a_plain_list(rt: HostRuntime) -> Result<(), Fail> {
     for seed in 0..100u32 {
-        check_mixed(&rt, seed);
+        check_mixed(&rt, rt.alloc(), seed)?;
     }
+    Ok(())
 }

@@ -14,8 +14,9 @@ fn check_full(rt: &impl Abort, count: usize) {
     let mut slots = [tick(9, 9); 5];
     let mut queue = TickQueue::new(&mut slots[0..count]);
     assert_eq!(rt; queue.take(), None);
-    for i in 0..count {
-        assert_eq!(rt; queue.put(tick(7, 10 - i as u16)), Ok(()));
+    let first = 11 - count as u16;
+    for number in (first..11).rev() {
+        assert_eq!(rt; queue.put(tick(7, number)), Ok(()));
     }
     for _ in 0..2 {
         assert_eq!(rt;
@@ -23,8 +24,8 @@ fn check_full(rt: &impl Abort, count: usize) {
             Err(QueueFault::Full { needed: count + 1 })
         );
     }
-    for i in 0..count {
-        assert_eq!(rt; queue.take(), Some(tick(7, 11 - count as u16 + i as u16)));
+    for number in first..11 {
+        assert_eq!(rt; queue.take(), Some(tick(7, number)));
     }
     assert_eq!(rt; queue.take(), None);
 }
@@ -70,14 +71,9 @@ fn jobs_of_one_rank_both_come(rt: HostRuntime) {
                 .is_ok()
         );
     }
-    let mut places = [0u8; 3];
-    for i in 0..3usize {
-        if let Some(job) = queue.take() {
-            places[i] = job.place;
-        }
-    }
-    assert!(rt; places[0] == 1 && places[1] == 2 || places[0] == 2 && places[1] == 1);
-    assert!(rt; places[2] == 4);
+    let taken = [queue.take(), queue.take(), queue.take()];
+    let places = taken.map(|job| job.map(|job| job.place));
+    assert!(rt; places == [Some(1), Some(2), Some(4)] || places == [Some(2), Some(1), Some(4)]);
 }
 
 #[test]
