@@ -1,2 +1,1 @@
-pub mod Breaking
-pub mod Numbers
+pub mod LoadingLaws

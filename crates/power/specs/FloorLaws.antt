@@ -8,10 +8,7 @@ pub floor_bounded : (D : ℕ → ℕ) (floor : ℕ) → floor ≤ 255 → ((s : 
 floor_bounded D floor b bounded s h = bounded (max s floor) (omega arith)
 
 pub floor_rising : (D : ℕ → ℕ) (floor : ℕ) → Rising 255 D → Rising 255 (floor_draw D floor)
-floor_rising D floor rising s h k = let r = rising s h k in grind arith
+floor_rising D floor rising s h k = grind (arith, rising s h k)
 
 pub floor_convex : (D : ℕ → ℕ) (floor : ℕ) → Rising 255 D → Convex 255 D → Convex 255 (floor_draw D floor)
-floor_convex D floor rising convex s h k =
-    let r = rising s (omega arith) k in
-    let c = convex s h k in
-    grind arith
+floor_convex D floor rising convex s h k = grind (arith, rising s (omega arith) k, convex s h k)

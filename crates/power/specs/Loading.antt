@@ -1,5 +1,5 @@
 -- What a measured model answers to a list of draws, and the numbers that it holds then.
-use Rattle.std.specs.Prelude.{◌≡◌, ℕ, ◌-◌, ◌≤◌, cond, List, length, take, Some, None, Ok, Err, Option, Result, nat_lt}
+use Rattle.std.specs.Prelude.{◌≡◌, ℕ, ◌-◌, ◌≤◌, if◌then◌else◌, List, length, take, Some, None, Ok, Err, Option, Result, is_ok, nat_lt}
 use Rattle.power.specs.declared.fault.PowerFault.{PowerFault}
 use Rattle.power.specs.declared.fault.PowerFault.TheVariants.{Field, Short, Broken}
 use Rattle.power.specs.Laws.{Lawful}
@@ -17,16 +17,11 @@ broken_at (Some s) = Err (Broken s)
 
 -- the answer: the length comes before the laws
 abbrev pub load_answer : List ℕ → Result (Unit {0}) PowerFault
-load_answer list = cond (nat_lt (length list) 256) (Err (Short 256)) (broken_at (first_break (list_draw list)))
+load_answer list = if nat_lt (length list) 256 then Err (Short 256) else broken_at (first_break (list_draw list))
 
--- the numbers after an answer: the first 256 of the list, or the old ones where it is refused
-abbrev pub loaded_by : Result (Unit {0}) PowerFault → (old list : List ℕ) → List ℕ
-loaded_by (Ok u) old list = take 256 list
-loaded_by (Err e) old list = old
-
--- the numbers after a load of the list
+-- the numbers after a load: the first 256 of the list, or the old ones where it is refused
 abbrev pub loaded : (old list : List ℕ) → List ℕ
-loaded old list = loaded_by (load_answer list) old list
+loaded old list = if is_ok (load_answer list) then take 256 list else old
 
 -- a list that can be loaded has 256 numbers, and the first 256 keep both laws
 abbrev pub Loadable : List ℕ → Type 0

@@ -1,7 +1,7 @@
 // A model that follows the cube of the setting.
-ghost use Rattle.std.specs.Prelude.{◌≡◌, ◌*◌, ◌≤◌};
+ghost use Rattle.std.specs.Prelude.{◌≡◌, ◌≤◌};
 ghost use Rattle.std.specs.Result.{result_map_both};
-ghost use Rattle.power.specs.Draws.{cube, cube_draw};
+ghost use Rattle.power.specs.Draws.{cube_draw};
 ghost use Rattle.power.specs.Cubes.{new_cube};
 ghost use Rattle.power.specs.CubeLaws.{cube_draw_bounded, cube_rising, cube_convex};
 
@@ -18,14 +18,6 @@ pub struct Cube {
     fixed: u32,
     factor: u8,
     ghost fits: { (fixed ≤ 66000000) × (factor ≤ 255) },
-}
-
-// The draw above the fixed one.
-fn varying(factor: u8, setting: u8) -> u32
-    ensures is { result ≡ factor * cube setting }
-    ensures bounded { result ≤ 4228250625 }
-{
-    factor as u32 * cubed(setting)
 }
 
 impl Cube {
@@ -52,6 +44,6 @@ impl PowerModel for Cube {
     ghost convex = { λ m. cube_convex m.fixed m.factor };
 
     fn draw(&self, setting: u8) -> u32 {
-        self.fixed + varying(self.factor, setting)
+        self.fixed + u32::from(self.factor) * cubed(setting)
     }
 }

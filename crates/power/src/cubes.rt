@@ -1,8 +1,7 @@
 // The cubes of the settings, in a constant table.
-ghost use Rattle.std.specs.Prelude.{◌≡◌, false};
+ghost use Rattle.std.specs.Prelude.{◌≡◌};
 ghost use Rattle.power.specs.Laws.{Lawful};
 ghost use Rattle.power.specs.Draws.{draw_at, cube};
-ghost use Rattle.power.specs.Breaks.{breaks_below};
 ghost use Rattle.power.specs.Cubes.{cube_table};
 
 use super::model::SETTINGS;
@@ -39,12 +38,12 @@ const CUBES: [u32; SETTINGS] = [
 // Each is one test over the whole table, which the check computes.
 fn cubes() -> &'static [u32; SETTINGS]
     ensures rule { result.now ≡ cube_table }
-    ensures laws { breaks_below (draw_at result.now) 256 ≡ false }
+    ensures laws { Lawful 255 (draw_at result.now) }
 {
     &CUBES
 }
 
-// The cube of a setting. By the rule and the laws of the table the cubes keep the laws of a model.
+// The cube of a setting. The cubes keep the laws of a model.
 pub(super) fn cubed(setting: u8) -> u32
     ensures is { result ≡ cube setting }
     ensures laws { Lawful 255 cube }

@@ -1,7 +1,12 @@
-use Rattle.std.proofs.Common.{lit≤}
-use Rattle.power.proofs.Numbers.{level_bounded, level_rising, level_convex}
+use Rattle.std.proofs.Common.{◌<◌, refl, arith, rules}
+use Rattle.std.proofs.lemmas.List.{get_or-replicate}
+use Rattle.power.specs.Breaks.{first_break}
+use Rattle.power.specs.BreakLaws.{lawful}
 use Rattle.power.proofs.measured.Measured.new.Goals as goal
 
-pub invariant_of-result : goal.invariant_of-result
-invariant_of-result c =
-    record { bounded = level_bounded _ (lit≤ tt); rising = level_rising _; convex = level_convex _ }
+pub invariant_of-result-clause-bounded : goal.invariant_of-result-clause-bounded
+invariant_of-result-clause-bounded c = λ s h. let k : s < 256 = omega arith in rw get_or-replicate (search rules)
+
+pub invariant_of-result-clause-lawful : goal.invariant_of-result-clause-lawful
+unfolding first_break
+invariant_of-result-clause-lawful c = lawful _ refl
