@@ -1,8 +1,7 @@
 // A model that follows the cube of the setting.
-ghost use Rattle.std.specs.Prelude.{◌≡◌, ◌≤◌};
-ghost use Rattle.std.specs.Result.{result_map_both};
+ghost use Rattle.std.specs.Prelude.{◌≡◌, ◌*◌, ◌≤◌, ◌↔◌, IfOk, IsOk, IsOkUnless};
 ghost use Rattle.power.specs.Draws.{cube_draw};
-ghost use Rattle.power.specs.Cubes.{new_cube};
+ghost use Rattle.power.specs.declared.cube.TheConstants.{MAX_FIXED};
 ghost use Rattle.power.specs.CubeLaws.{cube_draw_bounded, cube_rising, cube_convex};
 
 use super::cubes::cubed;
@@ -12,12 +11,13 @@ use super::model::PowerModel;
 // The greatest fixed draw: with it no draw is above 4,294,967,295.
 const MAX_FIXED: u32 = 66_000_000;
 
+// No `Model`: a law of `PowerModel` is proved of every value of a view, and the ghost field holds of some only.
 /// A model whose draw is a fixed number, and a factor times the cube of the setting.
-#[derive(Clone, Copy)]
+#[derive(Clone, Copy, PartialEq, Eq, Debug)]
 pub struct Cube {
     fixed: u32,
     factor: u8,
-    ghost fits: { (fixed ≤ 66000000) × (factor ≤ 255) },
+    ghost fits: { (fixed ≤ MAX_FIXED) × (factor ≤ 255) },
 }
 
 impl Cube {
@@ -25,7 +25,9 @@ impl Cube {
     ///
     /// Refuses a fixed draw above 66,000,000 with [`PowerFault::Field`].
     pub fn new(fixed: u32, factor: u8) -> Result<Cube, PowerFault>
-        ensures { result_map_both (λ m. (m.fixed, m.factor)) (λ e. e) result ≡ new_cube fixed factor }
+        ensures made { IfOk result (λ model. (model.fixed ≡ fixed) × (model.factor ≡ factor)) }
+        ensures refused { IsOkUnless result (PowerFault.Field CubeField.FixedDraw) }
+        ensures limit { IsOk result ↔ (fixed ≤ 66000000) }
     {
         if fixed > MAX_FIXED {
             return Err(PowerFault::Field(CubeField::FixedDraw));

@@ -8,10 +8,11 @@ ghost use Rattle.power.specs.Loading.{list_draw, load_answer, loaded, Loadable, 
 use super::fault::PowerFault;
 use super::model::{PowerModel, SETTINGS};
 
+// No `Model`: a law of `PowerModel` is proved of every value of a view, and the ghost fields hold of some only.
 /// A model of 256 numbers that the caller brings.
 ///
 /// They are zeros until a list is loaded.
-#[derive(Drop)]
+#[derive(PartialEq, Eq, Debug, Drop)]
 pub struct Measured {
     numbers: [u32; SETTINGS],
     ghost bounded: { (s : ℕ) → s ≤ 255 → draw_at numbers s ≤ 4294967295 },
