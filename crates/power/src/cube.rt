@@ -1,7 +1,9 @@
 // A model that follows the cube of the setting.
-ghost use Rattle.std.specs.Prelude.{◌≡◌, ◌*◌, ◌≤◌, ◌↔◌, IfOk, IsOk, IsOkUnless};
+ghost use Rattle.std.specs.Prelude.{◌≡◌, ◌≤◌};
+ghost use Rattle.std.specs.Result.{result_map_both};
 ghost use Rattle.power.specs.Draws.{cube_draw};
 ghost use Rattle.power.specs.declared.cube.TheConstants.{MAX_FIXED};
+ghost use Rattle.power.specs.Cubes.{new_cube};
 ghost use Rattle.power.specs.CubeLaws.{cube_draw_bounded, cube_rising, cube_convex};
 
 use super::cubes::cubed;
@@ -25,9 +27,7 @@ impl Cube {
     ///
     /// Refuses a fixed draw above 66,000,000 with [`PowerFault::Field`].
     pub fn new(fixed: u32, factor: u8) -> Result<Cube, PowerFault>
-        ensures made { IfOk result (λ model. (model.fixed ≡ fixed) × (model.factor ≡ factor)) }
-        ensures refused { IsOkUnless result (PowerFault.Field CubeField.FixedDraw) }
-        ensures limit { IsOk result ↔ (fixed ≤ 66000000) }
+        ensures { result_map_both (λ model. (model.fixed, model.factor)) (λ fault. fault) result ≡ new_cube fixed factor }
     {
         if fixed > MAX_FIXED {
             return Err(PowerFault::Field(CubeField::FixedDraw));
