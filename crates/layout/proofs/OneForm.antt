@@ -25,8 +25,7 @@ none_forbidden k i (b ∷ bs) e zero m q h = grind (arith, nat_tests)
 none_forbidden k i (b ∷ bs) e (suc j) m q h = none_forbidden k (i + 1) bs (grind (arith, nat_tests)) j m (omega arith) (omega arith)
 
 zero_there : (k : Kind) (i v : ℕ) → i < 18 → (leb 2 i && ltb i (numbers_end k)) ≡ false → allows k i v ≡ true → v ≡ 0
-zero_there k i v h n e =
-    grind (arith, nat_tests)
+zero_there k i v h n e = grind (arith, nat_tests)
 
 label_there : (k : Kind) (i v : ℕ) → 18 ≤ i → allows k i v ≡ true → label_allows k v ≡ true
 label_there k i v h e = grind (arith, nat_tests)

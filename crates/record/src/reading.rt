@@ -101,7 +101,6 @@ impl<'a> Reader<'a> {
             return Err(ReadFault::Cut { place });
         };
         self.place += RECORD_LEN;
-        let record = parse(bytes, place)?;
-        Ok(Some(record))
+        parse(bytes, place).map(Some)
     }
 }
