@@ -1,32 +1,20 @@
+use super::samples::cubes;
 use power::{Cube, CubeField, PowerFault, PowerModel};
 use std::process::Abort;
 use std::test::Fail;
 
-// The fault of a new model, if it is refused.
-fn fault(fixed: u32, factor: u8) -> Option<PowerFault> {
-    match Cube::new(fixed, factor) {
-        Ok(_) => None,
-        Err(fault) => Some(fault),
-    }
-}
-
 fn check_draw(rt: &impl Abort, fixed: u32, factor: u8, setting: u8, want: u32) -> Result<(), Fail> {
-    match Cube::new(fixed, factor) {
-        Ok(model) => {
-            assert_eq!(rt; model.draw(setting), want);
-            Ok(())
-        }
-        Err(_) => Err(Fail::new("no model was made")),
-    }
+    assert_eq!(rt; cubes(fixed, factor)?.draw(setting), want);
+    Ok(())
 }
 
 #[test]
 fn the_fixed_draw_has_a_limit(rt: HostRuntime) {
     let too_great = Some(PowerFault::Field(CubeField::FixedDraw));
-    assert_eq!(rt; fault(0, 255), None);
-    assert_eq!(rt; fault(66_000_000, 0), None);
-    assert_eq!(rt; fault(66_000_001, 0), too_great);
-    assert_eq!(rt; fault(u32::MAX, 255), too_great);
+    assert_eq!(rt; Cube::new(0, 255).err(), None);
+    assert_eq!(rt; Cube::new(66_000_000, 0).err(), None);
+    assert_eq!(rt; Cube::new(66_000_001, 0).err(), too_great);
+    assert_eq!(rt; Cube::new(u32::MAX, 255).err(), too_great);
 }
 
 // 255 * 255 = 65,025, and 65,025 * 255 = 16,581,375, and 16,581,375 * 255 = 4,228,250,625.
@@ -51,9 +39,10 @@ fn a_draw_is_the_fixed_one_and_the_factor_times_the_cube(rt: HostRuntime) -> Res
 
 #[test]
 fn each_of_the_256_is_a_cube(rt: HostRuntime) -> Result<(), Fail> {
+    let model = cubes(0, 1)?;
     for setting in 0..=255u8 {
-        let side = setting as u32;
-        check_draw(&rt, 0, 1, setting, side * side * side)?;
+        let side = u32::from(setting);
+        assert_eq!(rt; model.draw(setting), side * side * side);
     }
     Ok(())
 }

@@ -36,11 +36,9 @@ fn a_new_model_has_zeros(rt: HostRuntime) {
 
 #[test]
 fn a_short_list_is_refused(rt: HostRuntime) {
-    let list: &[u32] = &[0; 256];
-    assert!(rt; list.len() == 256);
-    for len in [0, 1, 255] {
-        assert!(rt; len < 256);
-        check_refused(&rt, &list[0..len], PowerFault::Short { needed: 256 });
+    let lists: [&[u32]; 3] = [&[], &[0], &[0; 255]];
+    for list in lists {
+        check_refused(&rt, list, PowerFault::Short { needed: 256 });
     }
 }
 
@@ -64,9 +62,7 @@ fn a_smaller_step_is_refused(rt: HostRuntime) {
 // The draws are `low` up to the setting, and `high` from it on.
 fn stepped(setting: u8, low: u32, high: u32) -> [u32; 256] {
     let mut list = [high; 256];
-    for at in 0..setting as usize {
-        list[at] = low;
-    }
+    list[..setting as usize].fill(low);
     list
 }
 
@@ -126,6 +122,6 @@ fn of_a_longer_list_the_first_256_count(rt: HostRuntime) {
     let mut model = loaded(&rt);
     assert_eq!(rt; model.load_draws(&counted()), Ok(()));
     for setting in 0..=255u8 {
-        assert_eq!(rt; model.draw(setting), setting as u32);
+        assert_eq!(rt; model.draw(setting), u32::from(setting));
     }
 }

@@ -1,19 +1,23 @@
-// Lists of draws, and of settings.
+// Models, lists of draws, and lists of settings.
+use power::Cube;
+use std::array;
+use std::test::Fail;
+
+// A model of cubes.
+pub(super) fn cubes(fixed: u32, factor: u8) -> Result<Cube, Fail> {
+    Cube::new(fixed, factor).map_err(|_| Fail::new("no model was made"))
+}
 
 // 0 to 255, and 44 zeros after them.
 pub(super) fn counted() -> [u32; 300] {
     let mut list = [0; 300];
-    for setting in 0..256 {
-        list[setting] = setting as u32;
+    for (setting, draw) in list[..256].iter_mut().enumerate() {
+        *draw = setting as u32;
     }
     list
 }
 
 // The settings 0 to 255, one of each.
 pub(super) fn each_once() -> [u8; 256] {
-    let mut settings = [0; 256];
-    for setting in 0..=255u8 {
-        settings[setting as usize] = setting;
-    }
-    settings
+    array::from_fn(|index| index as u8)
 }

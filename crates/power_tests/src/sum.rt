@@ -1,18 +1,11 @@
-use super::samples::{counted, each_once};
-use power::{Cube, Floor, Measured, total_draw};
+use super::samples::{counted, cubes, each_once};
+use power::{Floor, Measured, total_draw};
 use std::test::Fail;
-
-fn cube_model(fixed: u32, factor: u8) -> Result<Cube, Fail> {
-    match Cube::new(fixed, factor) {
-        Ok(model) => Ok(model),
-        Err(_) => Err(Fail::new("no model was made")),
-    }
-}
 
 // 256 * 10 = 2,560.
 #[test]
 fn idle_settings_draw_the_fixed_draw(rt: HostRuntime) -> Result<(), Fail> {
-    assert_eq!(rt; total_draw(&cube_model(10, 1)?, &[0; 256]), 2_560);
+    assert_eq!(rt; total_draw(&cubes(10, 1)?, &[0; 256]), 2_560);
     Ok(())
 }
 
@@ -20,19 +13,16 @@ fn idle_settings_draw_the_fixed_draw(rt: HostRuntime) -> Result<(), Fail> {
 #[test]
 fn a_few_settings_draw_their_cubes(rt: HostRuntime) -> Result<(), Fail> {
     let mut settings = [0u8; 256];
-    for tick in 0..4 {
-        settings[tick] = 1;
-    }
-    settings[4] = 3;
-    settings[5] = 3;
-    assert_eq!(rt; total_draw(&cube_model(0, 1)?, &settings), 58);
+    settings[..4].fill(1);
+    settings[4..6].fill(3);
+    assert_eq!(rt; total_draw(&cubes(0, 1)?, &settings), 58);
     Ok(())
 }
 
 // The cubes of 1 to 255 add up to (255 * 256 / 2) squared: 32,640 * 32,640 = 1,065,369,600. Twice that, and 256 * 5 = 1,280.
 #[test]
 fn each_setting_once_draws_all_cubes(rt: HostRuntime) -> Result<(), Fail> {
-    assert_eq!(rt; total_draw(&cube_model(5, 2)?, &each_once()), 2_130_740_480);
+    assert_eq!(rt; total_draw(&cubes(5, 2)?, &each_once()), 2_130_740_480);
     Ok(())
 }
 
@@ -40,7 +30,7 @@ fn each_setting_once_draws_all_cubes(rt: HostRuntime) -> Result<(), Fail> {
 #[test]
 fn the_greatest_sum_of_cubes(rt: HostRuntime) -> Result<(), Fail> {
     assert_eq!(rt;
-        total_draw(&cube_model(66_000_000, 255)?, &[255; 256]),
+        total_draw(&cubes(66_000_000, 255)?, &[255; 256]),
         1_099_328_160_000
     );
     Ok(())
@@ -49,7 +39,7 @@ fn the_greatest_sum_of_cubes(rt: HostRuntime) -> Result<(), Fail> {
 // Below 4 four settings draw 64, and 1 * 1 + 2 * 2 * 2 + 3 * 3 * 3 = 36 of the 1,065,369,600 fall away: 4 * 64 - 36 = 220 more.
 #[test]
 fn a_floor_raises_the_sum(rt: HostRuntime) -> Result<(), Fail> {
-    let model = Floor::new(cube_model(0, 1)?, 4);
+    let model = Floor::new(cubes(0, 1)?, 4);
     assert_eq!(rt; total_draw(&model, &each_once()), 1_065_369_820);
     Ok(())
 }
