@@ -1,5 +1,5 @@
 -- The laws of the cubes, and the entries of their table.
-use Rattle.std.specs.Prelude.{◌≡◌, ℕ, ◌≤◌, List, refl}
+use Rattle.std.specs.Prelude.{◌≡◌, ℕ, ◌*◌, ◌≤◌, List, refl}
 use Rattle.std.proofs.Common.{ap, ◌∙◌, arith, mul-le-mul, mul-le-mul_left}
 use Rattle.std.proofs.lemmas.List.FromFn.{get_or-map-range_with_len}
 use Rattle.power.specs.Laws.{Rising, Convex, Lawful}
@@ -23,6 +23,10 @@ cube_rising p c s h k = omega (arith, mul-le-mul_left c (cubes_lawful.0 s h k))
 pub cube_convex : (fixed factor : ℕ) → Convex 255 (cube_draw fixed factor)
 cube_convex p c s h k = omega (arith, mul-le-mul_left c (cubes_lawful.1 s h k))
 
--- no draw is greater than that of the greatest fixed draw, factor and setting
+-- no draw above the fixed one is greater than that of the greatest factor and setting
+pub cube_bounded : (factor s : ℕ) → factor ≤ 255 → s ≤ 255 → factor * cube s ≤ 4228250625
+cube_bounded c s h k = mul-le-mul h (mul-le-mul (mul-le-mul k k) k)
+
+-- so every draw is a 32-bit number
 pub cube_draw_bounded : (fixed factor : ℕ) → (fixed ≤ 66000000) × (factor ≤ 255) → (s : ℕ) → s ≤ 255 → cube_draw fixed factor s ≤ 4294967295
-cube_draw_bounded p c fits s h = omega (arith, mul-le-mul fits.1 (mul-le-mul (mul-le-mul h h) h))
+cube_draw_bounded p c fits s h = omega (arith, cube_bounded c s fits.1 h)
