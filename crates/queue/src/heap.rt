@@ -8,6 +8,8 @@ use super::order::Rank;
 /// A priority queue in slots that the caller lends, for elements of any type with a total order.
 ///
 /// The filled slots are a heap at all times, so a put and a take go through at most as many levels as the tree has.
+// Slots with a count, and no `Vec`: the slots are the caller's, and a library takes no heap of memory.
+// No `Model`: clauses have to name the lent slots, which a view would forget, so that the caller gets its own list back.
 #[derive(Drop)]
 pub struct Queue<'a, T: Rank> {
     pub(super) slots: &'a mut [T],
@@ -39,6 +41,7 @@ fn sift_up<T: Rank>(heap: &mut [T], moving: T)
     ensures ordered { HeapOrder T.before heap.new }
 {
     let mut place = heap.len() - 1;
+    // The place goes up the tree, by no iterator of a slice.
     while place > 0 {
         let parent = (place - 1) / 2;
         let above = heap[parent];
@@ -59,6 +62,7 @@ fn sift_down<T: Rank>(heap: &mut [T], moving: T)
     ensures ordered { HeapOrder T.before heap.new }
 {
     let mut place = 0;
+    // The place goes down the tree, by no iterator of a slice.
     while place < heap.len() / 2 {
         let child = lesser_child(heap, place);
         let below = heap[child];

@@ -16,6 +16,7 @@ pub struct ReadyJob {
     pub place: u8,
 }
 
+// Written for each element type, with laws that the check finds: a key with an `Ord` would hide what before and same rank are.
 impl Rank for ReadyJob {
     ghost before = { ready_before };
 

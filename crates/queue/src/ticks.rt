@@ -14,6 +14,7 @@ pub struct LoadedTick {
     pub tick: u16,
 }
 
+// Written for each element type, with laws that the check finds: a key with an `Ord` would hide what before and same rank are.
 impl Rank for LoadedTick {
     ghost before = { tick_before };
 

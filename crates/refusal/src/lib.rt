@@ -27,6 +27,7 @@ pub enum Values {
 #[derive(Clone, Copy, PartialEq, Eq, Debug)]
 pub struct Refusal {
     pub layer: Layer,
+    // A number and no enum: the firmware in C reads it.
     pub number: u8,
     pub values: Values,
 }

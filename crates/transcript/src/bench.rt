@@ -26,7 +26,7 @@ fn text(label: &[u8]) -> &str
 #[derive(Drop)]
 pub struct Bench<'a> {
     reader: Reader<'a>,
-    // Whether a fault has ended the run.
+    // Whether a fault has ended the run. A flag, since a run that is over still has its input and its place in what is promised.
     over: bool,
 }
 
@@ -82,6 +82,7 @@ impl<'a> Iterator for Bench<'a> {
             return None;
         }
         let place = self.reader.place();
+        // A match: `unwrap_or_else` would want a closure that changes the bench.
         match self.step() {
             Ok(line) => line,
             Err(fault) => {

@@ -6,6 +6,7 @@ use super::bench::Bench;
 use std::fmt;
 
 /// A file of records as `{}` prints it: a line for each record.
+// No `Model`: it is `Copy`, and a view could not give the reference back.
 #[derive(Clone, Copy)]
 pub struct Transcript<'a> {
     input: &'a [u8],
