@@ -14,7 +14,6 @@ use Rattle.transcript.specs.declared.fault.BenchFault.TheVariants.{Read}
 use Rattle.transcript.specs.Entries.{Entry, refused, read_entry, step_at, told_entry, entry_at, over_by}
 use Rattle.transcript.specs.Run.{Run, next_entry, next_run}
 use Rattle.transcript.specs.Text.{line_text, records}
-use Rattle.layout.proofs.Differ.{differ}
 
 -- what remains of an input at a place: nothing, less than a record, or a record
 data Remains (s : List ℕ) (p : ℕ) : Type 0 where
@@ -38,11 +37,11 @@ goes_on (Err (Forbidden at)) h = refl
 
 -- something is said of every record
 told_some : (p : ℕ) (r : Result Content ReadFault) → told_entry p (read_entry (one r)) ≡ None → ⊥
-told_some p (Ok c) e = differ (cc)
-told_some p (Err f) e = differ (cc)
+told_some p (Ok c) e = cc
+told_some p (Err f) e = cc
 
 none_some : {X : Type 0} (o : Option X) (x : X) → o ≡ None → o ≡ Some x → ⊥
-none_some o x p q = differ (cc)
+none_some o x p q = cc
 
 -- k lines are printed: the next record is the k-th, or the run is over
 abbrev pub Running : Run → ℕ → Type 0
