@@ -1,6 +1,5 @@
 -- What the definitions answer for a small book, by numbers, to be held against a search through all lists and sharings.
-use Rattle.std.specs.Prelude.{ℕ, zero, suc, ◌+◌, ◌-◌, ◌*◌, max, Bool, cond, ◌&&◌, List, [], ◌∷◌, ◌++◌, ◌==◌}
-use Rattle.std.proofs.Math.Option.{Option, none, some}
+use Rattle.std.specs.Prelude.{ℕ, zero, suc, ◌+◌, ◌-◌, ◌*◌, max, Bool, cond, ◌&&◌, List, [], ◌∷◌, ◌++◌, map, Option, Some, None, is_some, ◌==◌}
 use Rattle.schedule.specs.Sums.{upto}
 use Rattle.schedule.specs.Demands.{Demand, total}
 use Rattle.schedule.specs.Work.{work}
@@ -9,7 +8,7 @@ use Rattle.schedule.specs.Edf.{serve, next}
 use Rattle.schedule.specs.Draws.{drawn}
 use Rattle.schedule.specs.Lowering.{is_fit, settle}
 use Rattle.schedule.specs.Certificate.{listed}
-use Rattle.schedule.specs.Blocks.{Block, blocks}
+use Rattle.schedule.specs.Blocks.{blocks}
 
 -- a small book: the ticks that are looked at, the top, and the demands in an order of serving
 pub record Book : Type 0 where
@@ -52,30 +51,10 @@ count test top (suc n) xs = upto (λ s. count test top n (xs ++ (s ∷ []))) (su
 abbrev models : List (ℕ → ℕ)
 models = (λ s. s) ∷ (λ s. 10 + s * s * s) ∷ (λ s. max s 2 * max s 2 * max s 2) ∷ (λ s. s - 1) ∷ []
 
--- what the settings draw under each of the models
-abbrev drawn_by : ℕ → (ℕ → ℕ) → List (ℕ → ℕ) → List ℕ
-drawn_by n s [] = []
-drawn_by n s (D ∷ Ds) = drawn n D s ∷ drawn_by n s Ds
-
 -- an interval and its work, if there is one
 abbrev interval : List Demand → Option (ℕ × ℕ) → List ℕ
-interval ds none = []
-interval ds (some (a, b)) = a ∷ b ∷ work ds a b ∷ []
-
--- the list, unless an interval is overloaded
-abbrev unless_over : Option (ℕ × ℕ) → List ℕ → List ℕ
-unless_over none xs = xs
-unless_over (some ab) xs = []
-
--- the demands by their numbers
-abbrev triples : List Demand → List Triple
-triples [] = []
-triples (d ∷ ds) = (d.from, d.to, d.units) ∷ triples ds
-
--- the blocks by theirs
-abbrev block_numbers : List Block → List (ℕ × ℕ × ℕ × ℕ)
-block_numbers [] = []
-block_numbers (b ∷ bs) = (b.load, b.size, b.first, b.past) ∷ block_numbers bs
+interval ds None = []
+interval ds (Some (a, b)) = a ∷ b ∷ work ds a b ∷ []
 
 -- what the definitions answer
 abbrev pub answers : Book → Answers
@@ -90,9 +69,9 @@ answers book =
       exact = count (λ xs. is_fit n ds (listed xs) && upto (listed xs) n == total ds) book.top n [];
       settings = listing n s;
       served = serve (s 0) ds;
-      left = triples (next (s 0) ds);
-      draws = unless_over over (drawn_by n s models);
-      blocks = block_numbers (blocks n ds);
+      left = map (λ d. (d.from, d.to, d.units)) (next (s 0) ds);
+      draws = cond (is_some over) [] (map (λ D. drawn n D s) models);
+      blocks = map (λ b. (b.load, b.size, b.first, b.past)) (blocks n ds);
     }
 
 -- a book, and what a search found for it
@@ -102,10 +81,8 @@ pub record Case : Type 0 where
 
 -- what the definitions answer for each book of the cases
 abbrev pub answered : List Case → List Answers
-answered [] = []
-answered (c ∷ cs) = answers c.book ∷ answered cs
+answered cs = map (λ c. answers c.book) cs
 
 -- and what was found for each
 abbrev pub found_for : List Case → List Answers
-found_for [] = []
-found_for (c ∷ cs) = c.found ∷ found_for cs
+found_for cs = map (λ c. c.found) cs
