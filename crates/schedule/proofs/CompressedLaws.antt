@@ -1,12 +1,11 @@
 -- Compressed time from round to round.
-use Rattle.std.proofs.Common.{◌≡◌, ℕ, zero, suc, ◌+◌, ◌-◌, ◌<◌, ◌≤◌, min, Bool, true, false, cond, ◌⊎◌, List, [], ◌∷◌, length, refl, inl, inr, arith}
-use Rattle.std.specs.List.{AllByRecursion}
+use Rattle.std.proofs.Common.{◌≡◌, ℕ, zero, suc, ◌+◌, ◌-◌, ◌<◌, ◌≤◌, min, Bool, true, false, cond, ◌⊎◌, List, [], ◌∷◌, map, not, refl, inl, inr, arith}
 use Rattle.std.proofs.lemmas.Bool.Decides.{nat_tests}
-use Rattle.std.proofs.lemmas.Bool.{cases_lt, cond_both}
-use Rattle.std.proofs.ByRecursion.{All-weaker}
+use Rattle.std.proofs.lemmas.Bool.{cases_lt, cond_both, not-true}
+use Rattle.std.proofs.ByRecursion.{All-map, All-weaker, all_kept_by}
 use Rattle.schedule.specs.Demands.{Demand, Sound, Windowed, Busy}
 use Rattle.schedule.specs.Work.{inside}
-use Rattle.schedule.specs.Compressed.{compressed, seen, all_free, Live, windows, all_seen}
+use Rattle.schedule.specs.Compressed.{compressed, seen, all_free, Live, windows}
 use Rattle.schedule.specs.BestPair.{Pair}
 use Rattle.schedule.specs.Rounds.{unplaced, still_free, taken}
 use Rattle.schedule.proofs.SumsLaws.{upto_grows}
@@ -44,45 +43,32 @@ pub live_after : (n : ℕ) (free : ℕ → Bool) (p : Pair) → p.low < p.high �
 live_after n free p proper [] live = tt
 live_after n free p proper (d ∷ ds) live =
     let more = live_after n free p proper ds live.1 in
-    cond_both (inside p.low p.high (seen (compressed free) d)) (unplaced (compressed free) p ds) (d ∷ unplaced (compressed free) p ds)
+    cond_both (not (inside p.low p.high (seen (compressed free) d))) (d ∷ unplaced (compressed free) p ds) (unplaced (compressed free) p ds)
     (λ es. Live (compressed (still_free free p) n) (windows (still_free free p) es))
-    (λ _. more)
     (λ out. (
       omega (
         arith,
         live.0,
-        outside_parts p.low p.high (seen (compressed free) d) out,
+        outside_parts p.low p.high (seen (compressed free) d) (not-true _ out),
         compressed_after free p proper d.from,
         compressed_after free p proper d.to,
         compressed_after free p proper n,
       ),
       more,
     ))
+    (λ _. more)
 
 -- windows that hold a tick are sound
 pub live_sound : (m : ℕ) (ws : List Demand) → Live m ws → Sound m ws
 live_sound m ws live = All-weaker (λ w. (w.from < w.to) × (w.to ≤ m)) (Windowed m) (λ w holds some. holds) ws live
 
--- the demands left are some of those before
-all_unplaced : (P : Demand → Type 0) (time : ℕ → ℕ) (p : Pair) (ds : List Demand) → AllByRecursion P ds → AllByRecursion P (unplaced time p ds)
-all_unplaced P time p [] all = tt
-all_unplaced P time p (d ∷ ds) all =
-    let more = all_unplaced P time p ds all.1 in
-    cond_both (inside p.low p.high (seen time d)) (unplaced time p ds) (d ∷ unplaced time p ds) (AllByRecursion P) (λ _. more) (λ _. (all.0, more))
-
--- they have work left as before
+-- the demands left have work left as before
 pub busy_unplaced : (time : ℕ → ℕ) (p : Pair) (ds : List Demand) → Busy ds → Busy (unplaced time p ds)
-busy_unplaced = all_unplaced (λ d. 0 < d.units)
+busy_unplaced time p = all_kept_by (λ d. not (inside p.low p.high (seen time d))) (λ d. 0 < d.units)
 
 -- in another time they have as much work left
-pub busy_seen : (time : ℕ → ℕ) (ds : List Demand) → Busy ds → Busy (all_seen time ds)
-busy_seen time [] busy = tt
-busy_seen time (d ∷ ds) busy = (busy.0, busy_seen time ds busy.1)
-
--- and there are as many of them
-pub length_seen : (time : ℕ → ℕ) (ds : List Demand) → length (all_seen time ds) ≡ length ds
-length_seen time [] = refl
-length_seen time (d ∷ ds) = omega (arith, length_seen time ds)
+pub busy_seen : (time : ℕ → ℕ) (ds : List Demand) → Busy ds → Busy (map (seen time) ds)
+busy_seen time = All-map (λ d. 0 < d.units) (seen time)
 
 -- at first each demand has a free tick in its window
 pub live_first : (n : ℕ) (ds : List Demand) → Sound n ds → Busy ds → Live (compressed all_free n) (windows all_free ds)

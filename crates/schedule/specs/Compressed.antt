@@ -1,5 +1,5 @@
 -- Compressed time: only the free ticks count.
-use Rattle.std.specs.Prelude.{ℕ, ◌<◌, ◌≤◌, Bool, true, cond, List, [], ◌∷◌}
+use Rattle.std.specs.Prelude.{ℕ, ◌<◌, ◌≤◌, Bool, true, cond, List, map}
 use Rattle.std.specs.List.{AllByRecursion}
 use Rattle.schedule.specs.Sums.{upto}
 use Rattle.schedule.specs.Demands.{Demand}
@@ -16,14 +16,9 @@ compressed free t = upto (λ i. cond (free i) 1 0) t
 abbrev pub seen : (ℕ → ℕ) → Demand → Demand
 seen time d = record { from = time d.from; to = time d.to; units = d.units }
 
--- all demands as seen in it
-abbrev pub all_seen : (ℕ → ℕ) → List Demand → List Demand
-all_seen time [] = []
-all_seen time (d ∷ ds) = seen time d ∷ all_seen time ds
-
 -- the demands in compressed time
 abbrev pub windows : (ℕ → Bool) → List Demand → List Demand
-windows free ds = all_seen (compressed free) ds
+windows free ds = map (seen (compressed free)) ds
 
 -- each window holds a tick, and ends by m
 abbrev pub Live : ℕ → List Demand → Type 0

@@ -1,5 +1,5 @@
 -- The rounds of critical blocks: each places demands and takes their ticks, until no demand is left.
-use Rattle.std.specs.Prelude.{◌≡◌, ℕ, zero, suc, ◌<◌, Bool, cond, not, ◌&&◌, List, [], ◌∷◌, length, nat_le, nat_lt}
+use Rattle.std.specs.Prelude.{◌≡◌, ℕ, zero, suc, ◌<◌, Bool, not, ◌&&◌, List, [], ◌∷◌, length, filter, nat_le, nat_lt}
 use Rattle.schedule.specs.Demands.{Demand}
 use Rattle.schedule.specs.Work.{inside}
 use Rattle.schedule.specs.Compressed.{compressed, seen, windows}
@@ -19,8 +19,7 @@ still_free free p t = free t && not (between p (compressed free t))
 
 -- the demands that it does not place: those that do not lie inside the pair
 abbrev pub unplaced : (ℕ → ℕ) → Pair → List Demand → List Demand
-unplaced time p [] = []
-unplaced time p (d ∷ ds) = cond (inside p.low p.high (seen time d)) (unplaced time p ds) (d ∷ unplaced time p ds)
+unplaced time p ds = filter (λ d. not (inside p.low p.high (seen time d))) ds
 
 -- ps are the pairs of the rounds: each is the best of the demands not yet placed, and after the last round none is left
 abbrev pub Rounds : (ℕ → Bool) → List Demand → List Pair → Type 0
