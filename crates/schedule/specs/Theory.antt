@@ -1,5 +1,5 @@
 -- The theory of settings: every law in one record, each for all that it names.
-use Rattle.std.specs.Prelude.{◌≡◌, ℕ, ◌*◌, ◌<◌, ◌≤◌, true, false, ◌↔◌, List, [], ◌∷◌, length, sum, slice_index_or}
+use Rattle.std.specs.Prelude.{◌≡◌, ℕ, ◌*◌, ◌<◌, ◌≤◌, true, false, ◌↔◌, List, [], ◌∷◌, length, sum, Decides, slice_index_or}
 use Rattle.std.specs.List.{AllByRecursion}
 use Rattle.std.specs.List.Sorted.{IsPermutation}
 use Rattle.power.specs.Laws.{Rising, Convex}
@@ -11,7 +11,7 @@ use Rattle.schedule.specs.Sharing.{Shares, Sharing, load, Does, Exact}
 use Rattle.schedule.specs.Edf.{serve, next, edf}
 use Rattle.schedule.specs.Draws.{drawn}
 use Rattle.schedule.specs.Settled.{Settled}
-use Rattle.schedule.specs.Lowering.{settle}
+use Rattle.schedule.specs.Lowering.{is_fit, settle}
 use Rattle.schedule.specs.InForce.{horizon, Same, InForce, settings_in_force}
 use Rattle.schedule.specs.Placing.{placing}
 use Rattle.schedule.specs.Certificate.{listed, is_certified}
@@ -36,6 +36,8 @@ pub record Readings : Type 0 where
 pub record Enough : Type 0 where
   -- a list does the open work just if no interval holds more work than the list does in it
   pub does : (n : ℕ) (ds : List Demand) (s : ℕ → ℕ) → Sound n ds → Does n ds s ↔ Fits n ds s
+  -- which a test tells, interval by interval
+  pub tested : (n : ℕ) (ds : List Demand) (s : ℕ → ℕ) → Decides (is_fit n ds s) (Fits n ds s)
   -- it is exact just if, besides, its total is all the work
   pub exact : (n : ℕ) (ds : List Demand) (s : ℕ → ℕ) → Sound n ds → Exact n ds s ↔ (Fits n ds s × (upto s n ≡ total ds))
   -- no interval is overloaded just if some list up to the top does the open work
