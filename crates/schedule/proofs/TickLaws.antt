@@ -2,6 +2,7 @@
 use Rattle.std.proofs.Common.{◌≡◌, ℕ, suc, ◌<◌, ◌≤◌, cond, List, [], ◌∷◌, sum_by, sum, refl, arith}
 use Rattle.std.specs.List.Sorted.{IsPermutation}
 use Rattle.std.proofs.ByRecursion.{All-weaker, all_shuffled}
+use Rattle.std.proofs.lemmas.List.Elements.{All-from_recursion}
 use Rattle.std.proofs.lemmas.List.Sorted.{sum_by-IsPermutation}
 use Rattle.std.proofs.lemmas.List.Sums.{sum_by-cons}
 use Rattle.schedule.specs.Demands.{Demand, Windowed, Sound, Sorted}
@@ -48,7 +49,7 @@ ticked ds sorted sound =
     let settled : Settled 256 ds s = in_force_settled ds in
     record {
       gives = tick_gives 255 ds s sorted sound settled;
-      in_time = due_none_left 255 ds s sorted sound settled.fits;
+      in_time = All-from_recursion _ (next (s 0) ds) (due_none_left 255 ds s sorted sound settled.fits);
       none_overloaded = λ top none. none_overloaded_rest 255 ds s sorted sound settled top (in_force_within ds top none);
       sound = sound_again 255 ds s sorted sound settled;
       sorted = sorted_next (s 0) ds sorted;

@@ -1,6 +1,5 @@
 -- What critical blocks are like.
-use Rattle.std.specs.Prelude.{◌≡◌, ℕ, suc, ◌+◌, ◌*◌, ◌<◌, ◌≤◌, Bool, true, false, cond, List, [], ◌∷◌, length}
-use Rattle.std.specs.List.{AllByRecursion}
+use Rattle.std.specs.Prelude.{◌≡◌, ℕ, suc, ◌*◌, ◌<◌, ◌≤◌, Bool, true, false, cond, List, length, All, AllPairs, sum_by}
 use Rattle.schedule.specs.Sums.{upto}
 use Rattle.schedule.specs.Demands.{Demand, total}
 use Rattle.schedule.specs.Blocks.{Block}
@@ -19,25 +18,26 @@ pub record Shaped (n : ℕ) (b : Block) : Type 0 where
   pub ticks : upto (λ t. cond (b.has t) 1 0) n ≡ b.size
   pub bounds : Bounds n b.has b.first b.past
 
--- each block's work over its length is at least that of all blocks after it
+-- the exact speed of b, its work over its length, is at least that of c
+abbrev pub NoSlower : Block → Block → Type 0
+NoSlower b c = c.load * b.size ≤ b.load * c.size
+
+-- b and c share no tick
+abbrev pub Disjoint : Block → Block → Type 0
+Disjoint b c = (t : ℕ) → b.has t ≡ true → c.has t ≡ false
+
+-- the exact speeds of the blocks do not rise
 abbrev pub Falling : List Block → Type 0
-Falling [] = Unit {0}
-Falling (b ∷ bs) = AllByRecursion (λ c. c.load * b.size ≤ b.load * c.size) bs × Falling bs
+Falling bs = AllPairs NoSlower bs
 
--- no block shares a tick with those after it
+-- no two blocks share a tick
 abbrev pub Apart : List Block → Type 0
-Apart [] = Unit {0}
-Apart (b ∷ bs) = ((t : ℕ) → b.has t ≡ true → AllByRecursion (λ c. c.has t ≡ false) bs) × Apart bs
-
--- the work of all blocks
-abbrev pub loads : List Block → ℕ
-loads [] = 0
-loads (b ∷ bs) = b.load + loads bs
+Apart bs = AllPairs Disjoint bs
 
 -- blocks that do all the work, in ticks of their own, in falling order, and no more blocks than demands
 pub record Critical (n : ℕ) (ds : List Demand) (bs : List Block) : Type 0 where
-  pub shaped : AllByRecursion (Shaped n) bs
+  pub shaped : All (Shaped n) bs
   pub falling : Falling bs
   pub apart : Apart bs
-  pub whole : loads bs ≡ total ds
+  pub whole : sum_by (λ b. b.load) bs ≡ total ds
   pub few : length bs ≤ length ds

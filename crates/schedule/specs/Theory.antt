@@ -1,6 +1,5 @@
 -- The theory of settings: every law in one record, each for all that it names.
-use Rattle.std.specs.Prelude.{◌≡◌, ℕ, ◌*◌, ◌<◌, ◌≤◌, true, false, ◌↔◌, List, [], ◌∷◌, length, sum, Decides, slice_index_or}
-use Rattle.std.specs.List.{AllByRecursion}
+use Rattle.std.specs.Prelude.{◌≡◌, ℕ, ◌*◌, ◌<◌, ◌≤◌, true, false, ◌↔◌, List, [], ◌∷◌, length, All, sum, Decides, slice_index_or}
 use Rattle.std.specs.List.Sorted.{IsPermutation}
 use Rattle.power.specs.Laws.{Rising, Convex}
 use Rattle.schedule.specs.Sums.{upto}
@@ -79,7 +78,7 @@ pub record Ticked (ds : List Demand) : Type 0 where
   -- it gives just that many units
   pub gives : sum (serve (settings_in_force ds 0) ds) ≡ settings_in_force ds 0
   -- it leaves no work in a window that ends with the tick
-  pub in_time : AllByRecursion (λ d. d.to ≡ 0 → d.units ≡ 0) (next (settings_in_force ds 0) ds)
+  pub in_time : All (λ d. d.to ≡ 0 → d.units ≡ 0) (next (settings_in_force ds 0) ds)
   -- what is left overloads no interval, where none was overloaded before
   pub none_overloaded : (top : ℕ) → NoneOverloaded horizon ds top → NoneOverloaded horizon (next (settings_in_force ds 0) ds) top
   -- what is left has its windows, and its order, for the next tick
