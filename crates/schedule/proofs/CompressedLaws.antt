@@ -3,9 +3,9 @@ use Rattle.std.proofs.Common.{◌≡◌, ℕ, zero, suc, ◌+◌, ◌-◌, ◌<�
 use Rattle.std.proofs.lemmas.Bool.Decides.{nat_tests}
 use Rattle.std.proofs.lemmas.Bool.{cases_lt, cond_both, not-true}
 use Rattle.std.proofs.ByRecursion.{All-map, All-weaker, all_kept_by}
-use Rattle.schedule.specs.Demands.{Demand, Sound, Windowed, Busy}
+use Rattle.schedule.specs.Demands.{Demand, Sound, Windowed, AllOpen}
 use Rattle.schedule.specs.Work.{inside}
-use Rattle.schedule.specs.Compressed.{compressed, seen, all_free, Live, windows}
+use Rattle.schedule.specs.Compressed.{compressed, seen, all_free, NonEmpty, windows}
 use Rattle.schedule.specs.BestPair.{Pair}
 use Rattle.schedule.specs.Rounds.{unplaced, still_free, taken}
 use Rattle.schedule.proofs.SumsLaws.{upto_grows}
@@ -38,17 +38,17 @@ outside_parts : (a b : ℕ) (d : Demand) → inside a b d ≡ false → (d.from 
 outside_parts a b d test = elim (cases_lt d.from a) [ inl h ↦ inl h | inr h ↦ elim (cases_lt b d.to) [ inl k ↦ inr k | inr k ↦ absurd (grind (arith, nat_tests)) ] ]
 
 -- each demand that is not placed keeps a free tick in its window
-pub live_after : (n : ℕ) (free : ℕ → Bool) (p : Pair) → p.low < p.high → (ds : List Demand) → Live (compressed free n) (windows free ds)
-    → Live (compressed (still_free free p) n) (windows (still_free free p) (unplaced (compressed free) p ds))
-live_after n free p proper [] live = tt
-live_after n free p proper (d ∷ ds) live =
-    let more = live_after n free p proper ds live.1 in
+pub non_empty_after : (n : ℕ) (free : ℕ → Bool) (p : Pair) → p.low < p.high → (ds : List Demand) → NonEmpty (compressed free n) (windows free ds)
+    → NonEmpty (compressed (still_free free p) n) (windows (still_free free p) (unplaced (compressed free) p ds))
+non_empty_after n free p proper [] non_empty = tt
+non_empty_after n free p proper (d ∷ ds) non_empty =
+    let more = non_empty_after n free p proper ds non_empty.1 in
     cond_both (not (inside p.low p.high (seen (compressed free) d))) (d ∷ unplaced (compressed free) p ds) (unplaced (compressed free) p ds)
-    (λ es. Live (compressed (still_free free p) n) (windows (still_free free p) es))
+    (λ es. NonEmpty (compressed (still_free free p) n) (windows (still_free free p) es))
     (λ out. (
       omega (
         arith,
-        live.0,
+        non_empty.0,
         outside_parts p.low p.high (seen (compressed free) d) (not-true _ out),
         compressed_after free p proper d.from,
         compressed_after free p proper d.to,
@@ -59,19 +59,19 @@ live_after n free p proper (d ∷ ds) live =
     (λ _. more)
 
 -- windows that hold a tick are sound
-pub live_sound : (m : ℕ) (ws : List Demand) → Live m ws → Sound m ws
-live_sound m ws live = All-weaker (λ w. (w.from < w.to) × (w.to ≤ m)) (Windowed m) (λ w holds some. holds) ws live
+pub non_empty_sound : (m : ℕ) (ws : List Demand) → NonEmpty m ws → Sound m ws
+non_empty_sound m ws non_empty = All-weaker (λ w. (w.from < w.to) × (w.to ≤ m)) (Windowed m) (λ w holds some. holds) ws non_empty
 
 -- the demands left have work left as before
-pub busy_unplaced : (time : ℕ → ℕ) (p : Pair) (ds : List Demand) → Busy ds → Busy (unplaced time p ds)
-busy_unplaced time p = all_kept_by (λ d. not (inside p.low p.high (seen time d))) (λ d. 0 < d.units)
+pub open_unplaced : (time : ℕ → ℕ) (p : Pair) (ds : List Demand) → AllOpen ds → AllOpen (unplaced time p ds)
+open_unplaced time p = all_kept_by (λ d. not (inside p.low p.high (seen time d))) (λ d. 0 < d.units)
 
 -- in another time they have as much work left
-pub busy_seen : (time : ℕ → ℕ) (ds : List Demand) → Busy ds → Busy (map (seen time) ds)
-busy_seen time = All-map (λ d. 0 < d.units) (seen time)
+pub open_seen : (time : ℕ → ℕ) (ds : List Demand) → AllOpen ds → AllOpen (map (seen time) ds)
+open_seen time = All-map (λ d. 0 < d.units) (seen time)
 
 -- at first each demand has a free tick in its window
-pub live_first : (n : ℕ) (ds : List Demand) → Sound n ds → Busy ds → Live (compressed all_free n) (windows all_free ds)
-live_first n [] sound busy = tt
-live_first n (d ∷ ds) sound busy =
-    (omega (arith, sound.0 busy.0, compressed_all d.from, compressed_all d.to, compressed_all n), live_first n ds sound.1 busy.1)
+pub non_empty_first : (n : ℕ) (ds : List Demand) → Sound n ds → AllOpen ds → NonEmpty (compressed all_free n) (windows all_free ds)
+non_empty_first n [] sound all_open = tt
+non_empty_first n (d ∷ ds) sound all_open =
+    (omega (arith, sound.0 all_open.0, compressed_all d.from, compressed_all d.to, compressed_all n), non_empty_first n ds sound.1 all_open.1)

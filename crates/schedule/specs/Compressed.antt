@@ -20,6 +20,6 @@ seen time d = record { from = time d.from; to = time d.to; units = d.units }
 abbrev pub windows : (ℕ → Bool) → List Demand → List Demand
 windows free ds = map (seen (compressed free)) ds
 
--- each window holds a tick, and ends by m
-abbrev pub Live : ℕ → List Demand → Type 0
-Live m ws = AllByRecursion (λ w. (w.from < w.to) × (w.to ≤ m)) ws
+-- no window is empty, and each ends by m
+abbrev pub NonEmpty : ℕ → List Demand → Type 0
+NonEmpty m ws = AllByRecursion (λ w. (w.from < w.to) × (w.to ≤ m)) ws

@@ -20,9 +20,9 @@ Windowed n d = 0 < d.units → (d.from < d.to) × (d.to ≤ n)
 abbrev pub Sound : ℕ → List Demand → Type 0
 Sound n ds = AllByRecursion (Windowed n) ds
 
--- every demand has work left
-abbrev pub Busy : List Demand → Type 0
-Busy ds = AllByRecursion (λ d. 0 < d.units) ds
+-- every demand is open: it has work left
+abbrev pub AllOpen : List Demand → Type 0
+AllOpen ds = AllByRecursion (λ d. 0 < d.units) ds
 
 -- an order of serving: by deadline, and in any order among equal deadlines
 abbrev pub Sorted : List Demand → Type 0

@@ -3,7 +3,7 @@ use Rattle.std.specs.Prelude.{◌≡◌, ℕ, ◌*◌, ◌<◌, ◌≤◌, true,
 use Rattle.std.specs.List.Sorted.{IsPermutation}
 use Rattle.power.specs.Laws.{Rising, Convex}
 use Rattle.schedule.specs.Sums.{upto}
-use Rattle.schedule.specs.Demands.{Demand, job, Sound, Busy, Sorted, total}
+use Rattle.schedule.specs.Demands.{Demand, job, Sound, AllOpen, Sorted, total}
 use Rattle.schedule.specs.Work.{work, Fits}
 use Rattle.schedule.specs.Overload.{NoneOverloaded, starts, ends, over, first_overload, Searched}
 use Rattle.schedule.specs.Sharing.{Shares, Sharing, load, Does, Exact}
@@ -14,7 +14,7 @@ use Rattle.schedule.specs.Lowering.{is_fit, settle}
 use Rattle.schedule.specs.InForce.{horizon, Same, InForce, settings_in_force}
 use Rattle.schedule.specs.Placing.{placing}
 use Rattle.schedule.specs.Certificate.{listed, is_certified}
-use Rattle.schedule.specs.Compressed.{all_free, Live}
+use Rattle.schedule.specs.Compressed.{all_free, NonEmpty}
 use Rattle.schedule.specs.BestPair.{Pair, pair_work, Leads, Best}
 use Rattle.schedule.specs.Rounds.{Rounds, pairs}
 use Rattle.schedule.specs.Blocks.{blocks}
@@ -115,10 +115,10 @@ pub record Blocking : Type 0 where
   -- a round's pair is the only best one
   pub only_best : (ws : List Demand) (p q : Pair) → Best ws p → Best ws q → q ≡ p
   -- pairs from a start to an end suffice: a pair with work in it is best if it goes before all of those
-  pub start_to_end : (m : ℕ) (ws : List Demand) → Live m ws → (p : Pair) → p.low < p.high → 0 < pair_work ws p
+  pub start_to_end : (m : ℕ) (ws : List Demand) → NonEmpty m ws → (p : Pair) → p.low < p.high → 0 < pair_work ws p
       → ((q : Pair) → q.low < q.high → starts q.low ws ≡ true → ends q.high ws ≡ true → Leads (pair_work ws p) p (pair_work ws q) q) → Best ws p
   -- the rounds, for all demands that have work left
-  pub blocked : (n : ℕ) (ds : List Demand) → Sound n ds → Busy ds → Blocked n ds
+  pub blocked : (n : ℕ) (ds : List Demand) → Sound n ds → AllOpen ds → Blocked n ds
 
 -- 7. Settings in force by computation
 pub record Computing : Type 0 where
