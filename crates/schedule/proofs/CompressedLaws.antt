@@ -1,7 +1,7 @@
 -- Compressed time from round to round.
-use Rattle.std.proofs.Common.{◌≡◌, ℕ, zero, suc, ◌+◌, ◌-◌, ◌<◌, ◌≤◌, min, Bool, true, false, cond, ◌⊎◌, List, [], ◌∷◌, map, not, refl, inl, inr, arith}
+use Rattle.std.proofs.Common.{◌≡◌, ℕ, zero, suc, ◌+◌, ◌-◌, ◌<◌, ◌≤◌, min, Bool, true, false, cond, ◌⊎◌, List, [], ◌∷◌, map, not, refl, arith}
 use Rattle.std.proofs.lemmas.Bool.Decides.{nat_tests}
-use Rattle.std.proofs.lemmas.Bool.{cases_lt, cond_both, not-true}
+use Rattle.std.proofs.lemmas.Bool.{cond_both, not-true}
 use Rattle.std.proofs.ByRecursion.{All-map, All-weaker, all_kept_by}
 use Rattle.schedule.specs.Demands.{Demand, Sound, Windowed, AllOpen}
 use Rattle.schedule.specs.Work.{inside}
@@ -35,7 +35,7 @@ pub inside_parts : (a b : ℕ) (d : Demand) → inside a b d ≡ true → (a ≤
 inside_parts a b d test = grind (arith, nat_tests)
 
 outside_parts : (a b : ℕ) (d : Demand) → inside a b d ≡ false → (d.from < a) ⊎ (b < d.to)
-outside_parts a b d test = elim (cases_lt d.from a) [ inl h ↦ inl h | inr h ↦ elim (cases_lt b d.to) [ inl k ↦ inr k | inr k ↦ absurd (grind (arith, nat_tests)) ] ]
+outside_parts a b d test = grind (arith, nat_tests)
 
 -- each demand that is not placed keeps a free tick in its window
 pub non_empty_after : (n : ℕ) (free : ℕ → Bool) (p : Pair) → p.low < p.high → (ds : List Demand) → NonEmpty (compressed free n) (windows free ds)
