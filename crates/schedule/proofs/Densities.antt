@@ -2,7 +2,7 @@
 use Rattle.std.proofs.Common.{◌≡◌, ℕ, ◌+◌, ◌*◌, ◌<◌, ◌≤◌, Bool, true, List, [], ◌∷◌, refl, inl, inr, arith}
 use Rattle.std.specs.List.{AllByRecursion}
 use Rattle.std.proofs.lemmas.Bool.Decides.{nat_tests}
-use Rattle.std.proofs.lemmas.Bool.{cases_lt, cases_Bool}
+use Rattle.std.proofs.lemmas.Bool.{cases_lt}
 use Rattle.schedule.specs.Demands.{Demand}
 use Rattle.schedule.specs.Work.{inside}
 use Rattle.schedule.specs.Compressed.{compressed, seen, NonEmpty, windows}
@@ -29,29 +29,13 @@ module _ (n : ℕ) (free : ℕ → Bool) (p q r : Pair) (proper : p.low < p.high
   pair_work_moved : (ds : List Demand) → NonEmpty (compressed free n) (windows free ds)
       → pair_work (windows (still_free free p) (unplaced (compressed free) p ds)) q ≤ pair_work (windows free ds) r
   pair_work_moved [] non_empty = omega arith
-  pair_work_moved (d ∷ ds) non_empty =
-      let more = pair_work_moved ds non_empty.1 in
-      elim (cases_Bool (inside p.low p.high (seen (compressed free) d))) [
-        | inl counted ↦ rw counted (omega (arith, more))
-        | inr kept ↦ rw kept (elim (cases_Bool (inside q.low q.high (seen (compressed (still_free free p)) d))) [
-          | inl yes' ↦ let (begun, ended) = seen_moved d non_empty.0.0 yes' in rw yes' (grind (arith, nat_tests, more))
-          | inr no' ↦ rw no' (omega (arith, more))
-        ])
-      ]
+  pair_work_moved (d ∷ ds) non_empty = grind (arith, nat_tests, pair_work_moved ds non_empty.1, seen_moved d non_empty.0.0)
 
   -- where r holds p, so did the demands of the round
   pair_work_joined : r.low ≤ p.low → p.high ≤ r.high → (ds : List Demand) → NonEmpty (compressed free n) (windows free ds) →
       pair_work (windows (still_free free p) (unplaced (compressed free) p ds)) q + pair_work (windows free ds) p ≤ pair_work (windows free ds) r
   pair_work_joined low high [] non_empty = omega arith
-  pair_work_joined low high (d ∷ ds) non_empty =
-      let more = pair_work_joined low high ds non_empty.1 in
-      elim (cases_Bool (inside p.low p.high (seen (compressed free) d))) [
-        | inl counted ↦ let (begun, ended) = inside_parts p.low p.high (seen (compressed free) d) counted in rw counted (grind (arith, nat_tests, more))
-        | inr kept ↦ rw kept (elim (cases_Bool (inside q.low q.high (seen (compressed (still_free free p)) d))) [
-          | inl yes' ↦ let (begun, ended) = seen_moved d non_empty.0.0 yes' in rw yes' (grind (arith, nat_tests, more))
-          | inr no' ↦ rw no' (omega (arith, more))
-        ])
-      ]
+  pair_work_joined low high (d ∷ ds) non_empty = grind (arith, nat_tests, pair_work_joined low high ds non_empty.1, seen_moved d non_empty.0.0)
 
 -- after a round no pair is denser than that round
 module _ (n : ℕ) (free : ℕ → Bool) (ds : List Demand) (p : Pair) (best : Best (windows free ds) p) (non_empty : NonEmpty (compressed free n) (windows free ds)) where
