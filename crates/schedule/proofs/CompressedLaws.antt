@@ -1,7 +1,6 @@
 -- Compressed time from round to round.
 use Rattle.std.proofs.Common.{◌≡◌, ℕ, zero, suc, ◌+◌, ◌-◌, ◌<◌, ◌≤◌, min, Bool, true, false, cond, ◌⊎◌, List, [], ◌∷◌, map, not, refl, arith}
 use Rattle.std.proofs.lemmas.Bool.Decides.{nat_tests}
-use Rattle.std.proofs.lemmas.Bool.{cond_both, not-true}
 use Rattle.std.proofs.ByRecursion.{All-map, All-weaker, all_kept_by}
 use Rattle.schedule.specs.Demands.{Demand, Sound, Windowed, AllOpen}
 use Rattle.schedule.specs.Work.{inside}
@@ -43,20 +42,7 @@ pub non_empty_after : (n : ℕ) (free : ℕ → Bool) (p : Pair) → p.low < p.h
 non_empty_after n free p proper [] non_empty = tt
 non_empty_after n free p proper (d ∷ ds) non_empty =
     let more = non_empty_after n free p proper ds non_empty.1 in
-    cond_both (not (inside p.low p.high (seen (compressed free) d))) (d ∷ unplaced (compressed free) p ds) (unplaced (compressed free) p ds)
-    (λ es. NonEmpty (compressed (still_free free p) n) (windows (still_free free p) es))
-    (λ out. (
-      omega (
-        arith,
-        non_empty.0,
-        outside_parts p.low p.high (seen (compressed free) d) (not-true _ out),
-        compressed_after free p proper d.from,
-        compressed_after free p proper d.to,
-        compressed_after free p proper n,
-      ),
-      more,
-    ))
-    (λ _. more)
+    grind (arith, nat_tests, more, compressed_after free p proper d.from, compressed_after free p proper d.to, compressed_after free p proper n)
 
 -- windows that hold a tick are sound
 pub non_empty_sound : (m : ℕ) (ws : List Demand) → NonEmpty m ws → Sound m ws
