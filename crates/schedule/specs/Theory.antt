@@ -35,10 +35,10 @@ pub record Readings : Type 0 where
 pub record Enough : Type 0 where
   -- a list does the open work just if no interval holds more work than the list does in it
   pub does : (n : ℕ) (ds : List Demand) (s : ℕ → ℕ) → Sound n ds → Does n ds s ↔ Fits n ds s
-  -- which a test tells, interval by interval
-  pub tested : (n : ℕ) (ds : List Demand) (s : ℕ → ℕ) → Decides (is_fit n ds s) (Fits n ds s)
   -- it is exact just if, besides, its total is all the work
   pub exact : (n : ℕ) (ds : List Demand) (s : ℕ → ℕ) → Sound n ds → Exact n ds s ↔ (Fits n ds s × (upto s n ≡ total ds))
+  -- whether no interval holds more work than the list does in it, a test of all intervals tells
+  pub tested : (n : ℕ) (ds : List Demand) (s : ℕ → ℕ) → Decides (is_fit n ds s) (Fits n ds s)
   -- no interval is overloaded just if some list up to the top does the open work
   pub up_to_top : (n : ℕ) (ds : List Demand) (top : ℕ) → Sound n ds
       → NoneOverloaded n ds top ↔ ((s : ℕ → ℕ) × ((t : ℕ) → t < n → s t ≤ top) × Does n ds s)
