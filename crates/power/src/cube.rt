@@ -13,8 +13,8 @@ use super::model::PowerModel;
 // The greatest fixed draw: with it no draw is above 4,294,967,295.
 const MAX_FIXED: u32 = 66_000_000;
 
-// No `Model`: a law of `PowerModel` is proved of every value of a view, and the ghost field holds of some only.
 /// A model whose draw is a fixed number, and a factor times the cube of the setting.
+// No `Model`: its value would have to be these fields with what always holds of them, so that the laws can be proved of it.
 #[derive(Clone, Copy, PartialEq, Eq, Debug)]
 pub struct Cube {
     fixed: u32,

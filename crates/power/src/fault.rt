@@ -28,7 +28,7 @@ impl From<PowerFault> for Refusal {
         let (number, value) = match fault {
             PowerFault::Field(field) => (5, field as u64),
             PowerFault::Short { needed } => (10, needed as u64),
-            PowerFault::Broken { setting } => (12, setting as u64),
+            PowerFault::Broken { setting } => (12, u64::from(setting)),
         };
         Refusal::with_value(Layer::Power, number, value)
     }

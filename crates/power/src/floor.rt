@@ -5,8 +5,8 @@ ghost use Rattle.power.specs.FloorLaws.{floor_bounded, floor_rising, floor_conve
 
 use super::model::PowerModel;
 
-// No `Model`: a law of `PowerModel` is proved of every value of a view, and the ghost field holds of some only.
 /// A model over another: its draw is the lower model's at the greater of the setting and the floor.
+// No `Model`: its value would have to be these fields with what always holds of them, so that the laws can be proved of it.
 #[derive(PartialEq, Eq, Debug, Drop)]
 pub struct Floor<M> {
     lower: M,

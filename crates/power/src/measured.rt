@@ -1,17 +1,17 @@
 // A model whose draws were measured.
-ghost use Rattle.std.specs.Prelude.{◌≡◌, ℕ, ◌<◌, ◌≤◌, length, take, replicate};
+ghost use Rattle.std.specs.Prelude.{◌≡◌, ℕ, ◌≤◌, replicate};
 ghost use Rattle.power.specs.Laws.{Lawful};
 ghost use Rattle.power.specs.Draws.{draw_at};
 ghost use Rattle.power.specs.Breaks.{breaks_at, first_break};
-ghost use Rattle.power.specs.Loading.{list_draw, load_answer, loaded, Loadable, Accepts, NamesLeast};
+ghost use Rattle.power.specs.Loading.{list_draw, load_answer, loaded, Accepts, NamesLeast};
 
 use super::fault::PowerFault;
 use super::model::{PowerModel, SETTINGS};
 
-// No `Model`: a law of `PowerModel` is proved of every value of a view, and the ghost fields hold of some only.
 /// A model of 256 numbers that the caller brings.
 ///
 /// They are zeros until a list is loaded.
+// No `Model`: its value would have to be these fields with what always holds of them, so that the laws can be proved of it.
 #[derive(PartialEq, Eq, Debug, Drop)]
 pub struct Measured {
     numbers: [u32; SETTINGS],

@@ -1,11 +1,16 @@
 // Models, lists of draws, and lists of settings.
-use power::Cube;
+use power::{Cube, PowerModel};
 use std::array;
+use std::process::Abort;
 use std::test::Fail;
 
 // A model of cubes.
 pub(super) fn cubes(fixed: u32, factor: u8) -> Result<Cube, Fail> {
     Cube::new(fixed, factor).map_err(|_| Fail::new("no model was made"))
+}
+
+pub(super) fn check_draw<M: PowerModel + Drop>(rt: &impl Abort, model: M, setting: u8, want: u32) {
+    assert_eq!(rt; model.draw(setting), want);
 }
 
 // 0 to 255, and 44 zeros after them.

@@ -9,7 +9,7 @@ use super::order::Rank;
 ///
 /// The filled slots are a heap at all times, so a put and a take go through at most as many levels as the tree has.
 // Slots with a count, and no `Vec`: the slots are the caller's, and a library takes no heap of memory.
-// No `Model`: clauses have to name the lent slots, which a view would forget, so that the caller gets its own list back.
+// No `Model`: clauses name the lent slots, so that the caller gets its own list back.
 #[derive(Drop)]
 pub struct Queue<'a, T: Rank> {
     pub(super) slots: &'a mut [T],

@@ -65,7 +65,7 @@ fn check_mixed(rt: &impl Abort, alloc: Global, seed: u32) -> Result<(), Fail> {
         number = next(number);
         if (number >> 16) % 5 < 3 && list.len() < 32 {
             let job = ReadyJob {
-                deadline: (number >> 24) as u64 % 6,
+                deadline: u64::from(number >> 24) % 6,
                 ticket,
                 place: ((number >> 8) & 0xff) as u8,
             };

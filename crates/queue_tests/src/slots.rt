@@ -42,10 +42,13 @@ fn a_freed_slot_is_used_again(rt: HostRuntime) {
     let mut slots = [tick(0, 0); 2];
     let mut queue = TickQueue::new(&mut slots);
     assert_eq!(rt; queue.put(tick(1, 0)), Ok(()));
-    for i in 0..100u16 {
-        assert_eq!(rt; queue.put(tick(2 + i as u32, i)), Ok(()));
+    for number in 0..100u16 {
+        assert_eq!(rt; queue.put(tick(2 + u32::from(number), number)), Ok(()));
         assert!(rt; queue.put(tick(0, 0)).is_err());
-        assert_eq!(rt; queue.take(), Some(tick(1 + i as u32, i.saturating_sub(1))));
+        assert_eq!(rt;
+            queue.take(),
+            Some(tick(1 + u32::from(number), number.saturating_sub(1)))
+        );
     }
     assert_eq!(rt; queue.take(), Some(tick(101, 99)));
     assert_eq!(rt; queue.take(), None);

@@ -10,5 +10,5 @@ pub(super) fn read_number(bytes: &[u8]) -> u64
 {
     bytes
         .iter()
-        .fold(0, |number, byte| number << 8 | u64::from(*byte))
+        .fold(0, |number, byte| (number << 8) | u64::from(*byte))
 }

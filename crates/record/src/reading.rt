@@ -91,6 +91,7 @@ impl<'a> Reader<'a> {
         ensures said { read_by result ≡ read_at self.old.input self.old.place }
         ensures only { OnlyForm (read_by result) (part self.old.place 24 self.old.input) }
         ensures after { self.new ≡ after self.old }
+        ensures within { self.new.place ≤ length self.new.input }
     {
         let place = self.place;
         let left = &self.input[place..];

@@ -38,7 +38,7 @@ const BLANK: Offer<&[u8]> = Offer {
     label: b"      ",
 };
 
-// 24 bytes with these fields: of arrival and deadline the low six bytes.
+// 24 bytes with these fields: of arrival and deadline the low six bytes. That ticket and work fit two bytes is known where they are read.
 fn lay_out(kind: Kind, fields: &Offer<&[u8]>) -> [u8; RECORD_LEN]
     requires { length fields.now.label.now ≡ 6 }
     ensures bytes { result ≡ laid_out kind fields.now.ticket fields.now.arrival fields.now.deadline fields.now.work fields.now.label.now }

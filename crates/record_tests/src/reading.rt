@@ -85,11 +85,9 @@ fn only_three_bytes_are_kinds(rt: HostRuntime) {
     for kind in 0..=255u8 {
         let mut bytes = TICK;
         bytes[0] = kind;
-        let want = match kind {
-            0x4f | 0x53 | 0x54 => None,
-            _ => Some(ReadFault::UnknownKind { place: 0 }),
-        };
-        assert_eq!(rt; first_fault(&bytes), (want, 24));
+        let is_kind = matches!(kind, 0x4f | 0x53 | 0x54);
+        let fault = (!is_kind).then_some(ReadFault::UnknownKind { place: 0 });
+        assert_eq!(rt; first_fault(&bytes), (fault, 24));
     }
 }
 

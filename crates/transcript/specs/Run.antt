@@ -1,5 +1,5 @@
 -- A run of the bench over an input.
-use Rattle.std.specs.Prelude.{◌≡◌, ℕ, ◌+◌, ◌-◌, Bool, true, false, cond, List, length, None, Option, Result}
+use Rattle.std.specs.Prelude.{◌≡◌, ℕ, ◌+◌, ◌-◌, ◌≤◌, Bool, true, false, cond, List, length, None, Option, Result}
 use Rattle.layout.specs.Reading.{place_after}
 use Rattle.transcript.specs.declared.fault.BenchFault.{BenchFault}
 use Rattle.transcript.specs.Entries.{Entry, step_at, entry_at, over_by}
@@ -33,11 +33,12 @@ next_run r = record {
   over = cond r.over true (over_by (step_of r));
 }
 
--- no more lines than this are left: a byte and more for each, and one for a cut record
+-- no fewer than the lines that are left: each passes a byte or more, but for a cut record, which ends the run
 abbrev pub lines_left : Run → ℕ
 lines_left r = length r.input - r.place + cond r.over 0 1
 
--- what is said of the next record, and the run after it
+-- what is said of the next record, and the run after it, whose place lies within the input
 pub record SaysNext (before : Run) (said : Option Entry) (after : Run) : Type 0 where
   pub entry : said ≡ next_entry before
   pub run : after ≡ next_run before
+  pub within : after.place ≤ length after.input

@@ -31,12 +31,15 @@ pub struct Bench<'a> {
 }
 
 impl<'a> Model for Bench<'a> {
+    ghost use Rattle.std.specs.Prelude.{◌≤◌, length};
     ghost use Rattle.transcript.specs.Run.{Run};
     ghost use Rattle.transcript.specs.Bench.{run_of};
 
     ghost Value = { Run };
 
     ghost view = { run_of };
+
+    ghost invariant = { λ b. b.reader.place ≤ length b.reader.input };
 }
 
 impl<'a> Bench<'a> {
@@ -82,7 +85,7 @@ impl<'a> Iterator for Bench<'a> {
             return None;
         }
         let place = self.reader.place();
-        // A match: `unwrap_or_else` would want a closure that changes the bench.
+        // A match: the checker does not cover `unwrap_or_else` of a closure whose answer has a lifetime.
         match self.step() {
             Ok(line) => line,
             Err(fault) => {

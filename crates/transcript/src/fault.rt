@@ -14,10 +14,10 @@ pub enum BenchFault {
 }
 
 impl From<ReadFault> for BenchFault {
-    ghost from_gives = { λ e r. r ≡ Read e };
+    ghost from_gives = { λ fault above. above ≡ Read fault };
 
-    fn from(e: ReadFault) -> BenchFault {
-        BenchFault::Read(e)
+    fn from(fault: ReadFault) -> BenchFault {
+        BenchFault::Read(fault)
     }
 }
 
@@ -26,7 +26,7 @@ impl From<BenchFault> for Refusal {
 
     fn from(fault: BenchFault) -> Refusal {
         match fault {
-            BenchFault::Read(fault) => fault.into(),
+            BenchFault::Read(read) => read.into(),
         }
     }
 }
