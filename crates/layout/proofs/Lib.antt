@@ -1,5 +1,4 @@
 pub mod BigEndian
-pub mod LabelText
 pub mod Labels
 pub mod Layouts
 pub mod OneForm

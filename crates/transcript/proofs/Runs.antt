@@ -10,8 +10,7 @@ use Rattle.layout.specs.BigEndian.{part}
 use Rattle.layout.specs.Content.{Content}
 use Rattle.layout.specs.Reading.{parsed, one, place_after}
 use Rattle.layout.proofs.Readings.{read_end, read_cut, read_whole, not_cut, stays, moves_on}
-use Rattle.transcript.specs.declared.fault.BenchFault.TheVariants.{Read}
-use Rattle.transcript.specs.Entries.{Entry, refused, read_entry, step_at, told_entry, entry_at, over_by}
+use Rattle.transcript.specs.Entries.{Entry, read_entry, step_at, told_entry, entry_at, over_by}
 use Rattle.transcript.specs.Run.{Run, next_entry, next_run}
 use Rattle.transcript.specs.Text.{line_text, records}
 
@@ -34,11 +33,6 @@ goes_on (Ok c) h = refl
 goes_on (Err (Cut at)) h = absurd (h at refl)
 goes_on (Err (UnknownKind at)) h = refl
 goes_on (Err (Forbidden at)) h = refl
-
--- something is said of every record
-told_some : (p : ℕ) (r : Result Content ReadFault) → told_entry p (read_entry (one r)) ≡ None → ⊥
-told_some p (Ok c) e = cc
-told_some p (Err f) e = cc
 
 none_some : {X : Type 0} (o : Option X) (x : X) → o ≡ None → o ≡ Some x → ⊥
 none_some o x p q = cc
@@ -74,18 +68,9 @@ module _ (r : Run) (k : ℕ) (going : r.over ≡ false) (place : r.place ≡ 24 
       let bytes = part r.place 24 r.input in
       onward_by e h false (r.place + 24) (ap (λ x. over_by (read_entry x)) (read_whole r.input r.place b) ∙ goes_on (parsed r.place bytes) (not_cut r.place bytes)) (moves_on r.input r.place b) (inl (refl, omega arith, omega arith))
 
-  finished_going : next_entry r ≡ None → Remains r.input r.place → k ≡ records r.input
-  finished_going h (none a) = omega arith
-  finished_going h (cut a b) = absurd (none_some (next_entry r) (refused r.place (Read (Cut r.place))) h (entry_by_lem _ (ap (λ x. told_entry r.place (read_entry x)) (read_cut r.input r.place a b))))
-  finished_going h (whole b) = absurd (told_some r.place (parsed r.place (part r.place 24 r.input)) (sym (entry_by_lem _ (ap (λ x. told_entry r.place (read_entry x)) (read_whole r.input r.place b))) ∙ h))
-
 pub onward : (r : Run) (k : ℕ) (e : Entry) → Running r k → next_entry r ≡ Some e → Onward r k e
 onward r k e (inl g) h = onward_going r k g.0 g.1 g.2 e h (remains r.input r.place)
 onward r k e (inr g) h = absurd (none_some (next_entry r) e (cond-true r.over None (entry_at r.input r.place) g.0) h)
-
-pub finished : (r : Run) (k : ℕ) → Running r k → next_entry r ≡ None → k ≡ records r.input
-finished r k (inl g) h = finished_going r k g.0 g.1 g.2 h (remains r.input r.place)
-finished r k (inr g) h = g.1
 
 -- the text of the first k lines, and of one more
 abbrev pub front : List ℕ → ℕ → List ℕ

@@ -2,8 +2,8 @@ use Rattle.std.proofs.Common.{◌≡◌, ℕ, ◌+◌, ◌*◌, true, List, ◌+
 use Rattle.std.proofs.Output.{has_written_append, has_written_of_eq}
 use Rattle.transcript.specs.Entries.{entry_of, entry_at}
 use Rattle.transcript.specs.Run.{Run}
-use Rattle.transcript.specs.Text.{line_text, records}
-use Rattle.transcript.proofs.Runs.{Running, front, front_more, onward, finished}
+use Rattle.transcript.specs.Text.{line_text}
+use Rattle.transcript.proofs.Runs.{Running, front, front_more, onward}
 use Rattle.transcript.proofs.text.TranscriptDisplay.fmt.Goals as goal
 
 pub loop-line-preserved : goal.loop-line-preserved
@@ -28,11 +28,3 @@ loop-line-preserved g c =
         ),
       ),
     )
-
-pub returns-clause-writes : goal.returns-clause-writes
-returns-clause-writes g c plain ok =
-    let s = c.args.self.now.input.now in
-    let inv = c.loop-line.invariant in
-    let k = inv.1.0 in
-    let done = finished c.loop-line.line-iterator k inv.1.1.0 (sym c.in-None.ensures.steps.entry) in
-    has_written_of_eq g.W.Write.write_str_gives c.args.f.now (front s k) _ c.loop-line.f (ap (front s) (done ∙ ap records inv.0)) (inv.1.1.1 plain)
