@@ -1,0 +1,97 @@
+-- A unit goes to the least loaded tick of its hull, and leaves a hull.
+use Rattle.std.proofs.Common.{◌≡◌, ℕ, ◌+◌, ◌-◌, ◌<◌, ◌≤◌, false, ◌&&◌, ◌||◌, eqb, ltb, List, [], ◌∷◌, length, sym, ap, subst, ◌∙◌, inl, inr, Option, Some, arith}
+use Rattle.std.specs.List.{AllByRecursion}
+use Rattle.std.proofs.ByRecursion.{all_shuffled}
+use Rattle.std.proofs.lemmas.Bool.Decides.{nat_tests}
+use Rattle.std.proofs.lemmas.Bool.{cases_eq}
+use Rattle.queue.specs.declared.ticks.LoadedTick.{LoadedTick}
+use Rattle.queue.specs.Elements.{tick_before}
+use Rattle.queue.specs.Slots.{Slots, held}
+use Rattle.queue.specs.Says.{Added, TakeLeaves}
+use Rattle.schedule.specs.Placing.{State, put, low_end, lowest_tick, spot, place_at, slack_after}
+use Rattle.schedule.proofs.Poised.{AtMost}
+use Rattle.schedule.proofs.Deadlines.{lowest_tick_is}
+use Rattle.planner.specs.declared.hull.Hull.{Hull}
+use Rattle.planner.specs.Hull.{IsHull}
+use Rattle.planner.specs.Queued.{Current, Queued}
+use Rattle.planner.proofs.Queueing.{at_tick, queued_permuted, queued_tail, queued_again, queued_later}
+use Rattle.planner.proofs.Slots.{take_removed}
+use Rattle.planner.proofs.Lows.{low_end_last, low_end_rises, low_end_stays}
+
+pub nonempty : (s : ℕ → ℕ) (lo to : ℕ) (q : Slots LoadedTick) → lo < to → Queued s lo to (held q) → 0 < q.count
+nonempty s lo to q lt queued = elim (cases_eq q.count 0) [
+  | inl none ↦ absurd (let h : Queued s lo to [] = subst (λ k. Queued s lo to (held record q { count = k })) none queued in omega (arith, h.once lo (omega arith) lt))
+  | inr some ↦ omega arith
+]
+
+all_both : (P Q : LoadedTick → Type 0) (xs : List LoadedTick) → AllByRecursion P xs → AllByRecursion Q xs → AllByRecursion (λ x. P x × Q x) xs
+all_both P Q [] p q = tt
+all_both P Q (x ∷ xs) p q = ((p.0, q.0), all_both P Q xs p.1 q.1)
+
+-- of two ranks that are each at most the other, the ticks are the same
+rank_same : (x i y j : ℕ) → (ltb x y || (eqb x y && ltb i j)) ≡ false → AtMost x i y j → i ≡ j
+rank_same x i y j never (inl less) = absurd (let z : ◌≡◌ {A = ℕ} 0 1 = grind (arith, nat_tests) in omega arith)
+rank_same x i y j never (inr (same, early)) = grind (arith, nat_tests)
+
+pub lowest_taken : (s : ℕ → ℕ) (lo to : ℕ) (x : LoadedTick) (xs : List LoadedTick) → Queued s lo to (x ∷ xs) → lo ≤ x.tick
+    → AllByRecursion (λ y. tick_before y x ≡ false) (x ∷ xs) → x.tick ≡ lowest_tick s lo (to - lo - 1)
+lowest_taken s lo to x xs queued le least =
+    let k = to - lo - 1 in
+    let v = lowest_tick s lo k in
+    let low = lowest_tick_is s lo k in
+    let c = queued.current.0 in
+    let vt : v < to = omega (arith, low.before, c.1) in
+    let most : AtMost (s v) v (s x.tick) x.tick = low.lowest x.tick le (omega (arith, c.1)) in
+    let (y, yv, ((yu, yt), never)) = at_tick (λ y. Current s to y × (tick_before y x ≡ false)) v (x ∷ xs)
+    (all_both (Current s to) (λ y. tick_before y x ≡ false) (x ∷ xs) queued.current least) (omega (arith, queued.once v low.begun vt)) in
+    let yr : y.units ≡ s v = yu ∙ ap s yv in
+    sym (sym yv ∙ rank_same y.units y.tick x.units x.tick never (grind (arith, c.0)))
+
+-- x is taken out of the queue of a hull
+pub record Taken (st : State) (h : Hull) (r : Slots LoadedTick) (x : LoadedTick) : Type 0 where
+  pub hull : IsHull st h
+  pub queued : Queued st.settings h.start h.to (x ∷ held r)
+  pub least : AllByRecursion (λ y. tick_before y x ≡ false) (x ∷ held r)
+  pub room : r.count < length r.places
+
+pub taken : {st : State} {h : Hull} (q : Slots LoadedTick) {r : Slots LoadedTick} {answer : Option LoadedTick} {x : LoadedTick} → IsHull st h → q.count ≤ length q.places
+    → Queued st.settings h.start h.to (held q) → TakeLeaves tick_before q r answer → answer ≡ Some x → Taken st h r x
+taken {st = st} {h = h} q {r = r} {answer = answer} {x = x} hull fits queued said is =
+    let removed = take_removed tick_before q r answer x said is in
+    record {
+      hull = hull;
+      queued = queued_permuted st.settings h.start h.to (held q) (x ∷ held r) removed.holds queued;
+      least = all_shuffled (λ y. tick_before y x ≡ false) (held q) (x ∷ held r) removed.holds removed.least;
+      room = omega (arith, removed.slots, removed.count);
+    }
+
+module _ {st : State} {h : Hull} {r : Slots LoadedTick} {x : LoadedTick} (t : Taken st h r x) where
+  -- it is dropped where it lies before the start
+  pub dropped : x.tick < h.start → Queued st.settings h.start h.to (held r)
+  dropped early = queued_tail st.settings h.start h.to x (held r) t.queued early
+
+  -- else it is the spot
+  pub is_spot : h.start ≤ x.tick → x.tick ≡ spot h.from h.to st
+  is_spot late = lowest_taken st.settings h.start h.to x (held r) t.queued late t.least ∙ ap (λ l. lowest_tick st.settings l (h.to - l - 1)) t.hull.start
+
+  pub in_sight : x.tick < 256
+  in_sight = omega (arith, t.queued.current.0.1, t.hull.in_sight)
+
+  pub slack_before : h.start ≤ x.tick → (k : ℕ) → x.tick < k → k ≤ h.from → 0 < st.slack k
+  slack_before late k xk kf = low_end_last st.slack h.from k (omega (arith, t.hull.start)) kf
+
+  -- a unit is placed there, and the tick is queued again
+  module _ (late : h.start ≤ x.tick) {after : State} (placed : after ≡ place_at h.from x.tick st) {p : Slots LoadedTick} (added : Added record { units = x.units + 1; tick = x.tick } r p) where
+    pub queued_after : Queued after.settings h.start h.to (held p)
+    queued_after = subst (λ (s : State). Queued s.settings h.start h.to (held p)) (sym placed)
+        (queued_permuted (put st.settings x.tick) h.start h.to (record { units = x.units + 1; tick = x.tick } ∷ held r) (held p) added.holds (queued_again st.settings h.start h.to x (held r) t.queued late))
+
+    low_end_after : low_end after.slack h.from ≡ low_end (slack_after h.from x.tick st.slack) h.from
+    low_end_after = ap (λ (s : State). low_end s.slack h.from) placed
+
+    pub queued_risen : Queued after.settings (low_end after.slack h.from) h.to (held p)
+    queued_risen = queued_later after.settings h.start (low_end after.slack h.from) h.to (held p)
+        (omega (arith, low_end_after, t.hull.start, low_end_rises st.slack h.from x.tick (omega (arith, t.hull.start)))) queued_after
+
+    pub start_stays : h.from ≤ x.tick → h.start ≡ low_end after.slack h.from
+    start_stays fx = t.hull.start ∙ sym (low_end_after ∙ low_end_stays st.slack h.from x.tick fx)

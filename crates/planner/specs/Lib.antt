@@ -1,0 +1,4 @@
+pub mod Plannable
+pub mod Plan
+pub mod Queued
+pub mod Hull

@@ -1,0 +1,71 @@
+// The hull of a window: where one unit more of it can go.
+ghost use Rattle.std.specs.Prelude.{◌≡◌, ◌<◌, ◌≤◌};
+ghost use Rattle.schedule.specs.Placing.{place_at, spot};
+
+use super::plan::Plan;
+use queue::{LoadedTick, TickQueue};
+
+// The hull of the window [from, to), which ends with it. Its ticks wait in a queue, the least loaded first; ticks before its start may wait there too.
+#[derive(Drop)]
+pub(super) struct Hull<'a> {
+    from: usize,
+    to: usize,
+    start: usize,
+    ticks: TickQueue<'a>,
+}
+
+impl<'a> Hull<'a> {
+    ghost use Rattle.planner.specs.Plan.{state_of, Bounded};
+    ghost use Rattle.planner.specs.Hull.{IsHull};
+
+    // The hull of the window in a plan. Its queue is in these slots.
+    pub(super) fn new(
+        slots: &'a mut [LoadedTick; 256],
+        plan: &Plan,
+        from: usize,
+        to: usize,
+    ) -> Hull<'a>
+        requires proper { from < to }
+        requires in_sight { to ≤ 256 }
+        ensures hull { IsHull (state_of plan.now) result }
+        ensures window { (result.from ≡ from) × (result.to ≡ to) }
+    {
+        let start = plan.hull_start(from);
+        let mut ticks = TickQueue::new(slots);
+        for tick in start..to {
+            let units = plan.loads[tick];
+            let tick = tick as u16;
+            ticks.put(LoadedTick { units, tick }).unwrap();
+        }
+        Hull {
+            from,
+            to,
+            start,
+            ticks,
+        }
+    }
+
+    // One unit more of the window is placed, at the least loaded tick.
+    pub(super) fn place_unit(&mut self, plan: &mut Plan)
+        requires hull { IsHull (state_of plan.old) self.old }
+        requires room { Bounded 4294967294 (state_of plan.old) }
+        ensures placed { state_of plan.new ≡ place_at self.old.from (spot self.old.from self.old.to (state_of plan.old)) (state_of plan.old) }
+        ensures hull { IsHull (state_of plan.new) self.new }
+        ensures window { (self.new.from ≡ self.old.from) × (self.new.to ≡ self.old.to) }
+    {
+        let ticks = &mut self.ticks;
+        let lowest = loop {
+            let next = ticks.take().unwrap();
+            if usize::from(next.tick) >= self.start {
+                break next;
+            }
+        };
+        let tick = usize::from(lowest.tick);
+        plan.place(self.from, tick);
+        let units = lowest.units + 1;
+        ticks.put(LoadedTick { units, ..lowest }).unwrap();
+        if tick < self.from {
+            self.start = plan.hull_start(self.from);
+        }
+    }
+}

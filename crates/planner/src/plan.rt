@@ -1,0 +1,82 @@
+// The units placed so far.
+ghost use Rattle.std.specs.Prelude.{◌≡◌, ℕ, ◌+◌, ◌-◌, ◌<◌, ◌≤◌, length, slice_index};
+ghost use Rattle.schedule.specs.Placing.{empty, low_end, place_at};
+
+// The units that are placed in each tick, and the slack at each, by which the units placed from it on exceed those of the windows that start there or later.
+#[derive(Drop)]
+pub(super) struct Plan {
+    pub(super) loads: [u32; 256],
+    slack: [u32; 256],
+}
+
+// One more at each place.
+fn raise(slack: &mut [u32])
+    requires { (k : ℕ) → slice_index slack.old k ≤ 4294967294 }
+    ensures { (k : ℕ) → k < length slack.old → slice_index slack.new k ≡ slice_index slack.old k + 1 }
+{
+    for place in slack {
+        *place += 1;
+    }
+}
+
+// One less at each place.
+fn lower(slack: &mut [u32])
+    requires { (k : ℕ) → k < length slack.old → 0 < slice_index slack.old k }
+    ensures { (k : ℕ) → k < length slack.old → slice_index slack.new k ≡ slice_index slack.old k - 1 }
+{
+    for place in slack {
+        *place -= 1;
+    }
+}
+
+impl Plan {
+    ghost use Rattle.planner.specs.Plan.{state_of, Bounded};
+
+    // Nothing is placed yet.
+    pub(super) fn new() -> Plan
+        ensures { state_of result ≡ empty }
+    {
+        Plan {
+            loads: [0; 256],
+            slack: [0; 256],
+        }
+    }
+
+    // The start of the hull of a window that starts at `from`.
+    pub(super) fn hull_start(&self, from: usize) -> usize
+        requires { from < 256 }
+        ensures { result ≡ low_end (state_of self.now).slack from }
+    {
+        self.slack[..=from]
+            .iter()
+            .rposition(|&slack| slack == 0)
+            .unwrap_or(0)
+    }
+
+    // A unit of a window that starts at `from` is placed at the tick.
+    pub(super) fn place(&mut self, from: usize, tick: usize)
+        requires window { from < 256 }
+        requires tick { tick < 256 }
+        requires room { Bounded 4294967294 (state_of self.old) }
+        requires slack { (k : ℕ) → tick < k → k ≤ from → 0 < (state_of self.old).slack k }
+        ensures { state_of self.new ≡ place_at from tick (state_of self.old) }
+    {
+        self.loads[tick] += 1;
+        if from < tick {
+            raise(&mut self.slack[from + 1..=tick]);
+        } else {
+            lower(&mut self.slack[tick + 1..=from]);
+        }
+    }
+    // The loads as settings, where they are small enough.
+    pub(super) fn settings(&self) -> [u8; 256]
+        requires { (t : ℕ) → t < 256 → slice_index self.now.loads t ≤ 255 }
+        ensures { (t : ℕ) → t < 256 → slice_index result t ≡ slice_index self.now.loads t }
+    {
+        let mut settings = [0; 256];
+        for (tick, setting) in settings.iter_mut().enumerate() {
+            *setting = self.loads[tick] as u8;
+        }
+        settings
+    }
+}
