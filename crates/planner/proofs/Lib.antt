@@ -1,3 +1,4 @@
+pub mod Orders
 pub mod States
 pub mod Lows
 pub mod Queueing

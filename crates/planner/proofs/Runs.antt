@@ -1,11 +1,14 @@
 -- Units and demands, one after the other.
-use Rattle.std.proofs.Common.{◌≡◌, ℕ, zero, suc, ◌+◌, ◌-◌, ◌*◌, ◌<◌, ◌≤◌, List, [], ◌∷◌, length, get_or, drop, add-zero, refl, sym, ap, subst, ◌∙◌, arith}
+use Rattle.std.proofs.Common.{◌≡◌, ℕ, zero, suc, ◌+◌, ◌-◌, ◌*◌, ◌<◌, ◌≤◌, List, length, get_or, drop, add-zero, refl, sym, ap, subst, ◌∙◌, arith}
+use Rattle.std.proofs.ByRecursion.{All-get_or}
 use Rattle.std.proofs.lemmas.List.{drop_more, drop_all}
 use Rattle.std.proofs.lemmas.Bool.Decides.{nat_tests}
-use Rattle.schedule.specs.Demands.{Demand, Windowed, Sound}
-use Rattle.schedule.specs.Placing.{State, spot, place_at, fill, run, empty}
+use Rattle.schedule.specs.Demands.{Demand, Windowed}
+use Rattle.schedule.specs.Placing.{State, spot, place_at, fill, run, empty, placing}
 use Rattle.schedule.specs.Certificate.{listed}
-use Rattle.schedule.specs.InForce.{horizon, settings_in_force}
+use Rattle.schedule.specs.InForce.{horizon, InForce, Same, settings_in_force}
+use Rattle.schedule.proofs.InForceLaws.{settled_in_force}
+use Rattle.schedule.proofs.PlacingLaws.{placing_settled}
 use Rattle.schedule.proofs.Theory.{theory}
 use Rattle.planner.specs.declared.plan.Plan.{Plan}
 use Rattle.planner.specs.Plannable.{Plannable}
@@ -47,20 +50,13 @@ pub all_run : (ds : List Demand) (i : ℕ) (st : State) → length ds ≤ i → 
 all_run ds i st le = rw (drop_all i ds le) refl
 
 -- each demand of the list has its window
-window_at : (n : ℕ) (ds : List Demand) (i : ℕ) (d : Demand) → Sound n ds → i < length ds → Windowed n (get_or ds i d)
-window_at n [] i d sound lt = absurd (omega arith)
-window_at n (e ∷ ds) zero d sound lt = sound.0
-window_at n (e ∷ ds) (suc i) d sound lt = window_at n ds i d sound.1 (omega arith)
-
 pub window : (ds : List Demand) (i : ℕ) (d : Demand) → Plannable ds → i < length ds → d ≡ get_or ds i d → Windowed 256 d
-window ds i d plannable lt is = subst (λ n. Windowed n d) theory.ticks (subst (Windowed horizon) (sym is) (window_at horizon ds i d plannable.sound lt))
+window ds i d plannable lt is = subst (λ n. Windowed n d) theory.ticks (subst (Windowed horizon) (sym is) (All-get_or (Windowed horizon) ds i d lt plannable.sound))
 
--- once all are placed, the loads are the settings in force, and none is above 255
+-- once all are placed, the loads are the settings in force
 module _ (ds : List Demand) (p : Plan) (plannable : Plannable ds) (done : state_of p ≡ run ds empty) where
-  pub in_force : (t : ℕ) → t < horizon → listed p.loads t ≡ settings_in_force ds t
-  in_force t lt = ap (λ (st : State). st.settings t) done ∙ sym (theory.planning.placed ds plannable.sound plannable.sorted t lt)
+  pub loads_same : Same horizon (listed p.loads) (settings_in_force ds)
+  loads_same t lt = ap (λ (st : State). st.settings t) done ∙ sym (theory.planning.placed ds plannable.sound plannable.sorted t lt)
 
-  pub small : (t : ℕ) → t < 256 → listed p.loads t ≤ 255
-  small t lt =
-      let within : t < horizon = omega (arith, theory.ticks) in
-      omega (arith, in_force t within, theory.standing.within ds 255 plannable.none_overloaded t within)
+  pub loads_in_force : InForce horizon ds (listed p.loads)
+  loads_in_force = subst (λ (st : State). InForce horizon ds st.settings) (sym done) (settled_in_force horizon ds (placing ds) plannable.sound (placing_settled horizon ds plannable.sound plannable.sorted))

@@ -1,12 +1,10 @@
 -- What the planner asks of demands.
 use Rattle.std.specs.Prelude.{◌≤◌, List, length}
 use Rattle.schedule.specs.Demands.{Demand, Sound, Sorted}
-use Rattle.schedule.specs.Overload.{NoneOverloaded}
 use Rattle.schedule.specs.InForce.{horizon}
 
--- demands that settings can be made for: at most 64, with their windows, in order of deadline, and none overloaded at the highest top
+-- demands that settings can be made for: at most 64, with their windows, in order of deadline
 pub record Plannable (ds : List Demand) : Type 0 where
   pub few : length ds ≤ 64
   pub sound : Sound horizon ds
   pub sorted : Sorted ds
-  pub none_overloaded : NoneOverloaded horizon ds 255

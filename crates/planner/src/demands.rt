@@ -1,4 +1,8 @@
 // The demands that settings are made for.
+ghost use Rattle.std.specs.Prelude.{◌≡◌, ◌↔◌, IfSome, IsSome, IsTrue};
+ghost use Rattle.schedule.specs.Demands.{Sorted, Sound};
+ghost use Rattle.schedule.specs.InForce.{horizon};
+ghost use Rattle.planner.specs.Plannable.{Plannable};
 
 use std::marker::Model;
 
@@ -20,8 +24,7 @@ impl Model for Demand {
     ghost inverse = { λ d. record { from = d.from; to = d.to; units = d.units } };
 }
 
-/// Demands that settings can be made for: at most 64, each with its window within 256 ticks, in order of deadline, with no interval that asks for more than 255
-/// units in each of its ticks.
+/// Demands that settings can be made for: at most 64, each with its window within 256 ticks, in order of deadline.
 #[derive(Drop)]
 pub struct Demands<'a> {
     pub list: &'a [Demand],
@@ -37,4 +40,32 @@ impl<'a> Model for Demands<'a> {
     ghost view = { λ d. d.list.now };
 
     ghost invariant = { λ d. Plannable d.list.now };
+}
+
+// Whether each demand has its window within 256 ticks.
+fn has_windows(list: &[Demand]) -> bool
+    ensures { IsTrue result ↔ Sound horizon list.now }
+{
+    list.iter().all(|demand| demand.units == 0 || demand.from < demand.to && demand.to <= 256)
+}
+
+// Whether the demands come in order of deadline.
+fn is_sorted(list: &[Demand]) -> bool
+    ensures { IsTrue result ↔ Sorted list.now }
+{
+    list.is_sorted_by(|first, second| first.to <= second.to)
+}
+
+impl<'a> Demands<'a> {
+    /// The demands of the list, or none where settings can't be made for them.
+    pub fn new(list: &'a [Demand]) -> Option<Demands<'a>>
+        ensures some { IsSome result ↔ Plannable list.now }
+        ensures list { IfSome result (λ demands. demands ≡ list.now) }
+    {
+        if list.len() <= 64 && has_windows(list) && is_sorted(list) {
+            Some(Demands { list })
+        } else {
+            None
+        }
+    }
 }

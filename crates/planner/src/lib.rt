@@ -4,7 +4,7 @@
 ghost use Rattle.std.specs.Prelude.{◌≡◌, ◌≤◌};
 ghost use Rattle.schedule.specs.Certificate.{listed};
 ghost use Rattle.schedule.specs.Demands.{Windowed};
-ghost use Rattle.schedule.specs.InForce.{horizon, Same, settings_in_force};
+ghost use Rattle.schedule.specs.InForce.{horizon, InForce, Same, settings_in_force};
 ghost use Rattle.schedule.specs.Placing.{fill};
 ghost use Rattle.planner.specs.Plan.{state_of, Bounded};
 
@@ -35,12 +35,13 @@ fn fill(plan: &mut Plan, demand: &Demand)
 }
 
 /// The settings in force for these demands.
-pub fn settings(demands: &Demands) -> [u8; 256]
-    ensures { Same horizon (listed result) (settings_in_force demands.now) }
+pub fn settings(demands: &Demands) -> [u32; 256]
+    ensures settings { Same horizon (listed result) (settings_in_force demands.now) }
+    ensures in_force { InForce horizon demands.now (listed result) }
 {
     let mut plan = Plan::new();
     for demand in demands.list {
         fill(&mut plan, demand);
     }
-    plan.settings()
+    plan.loads
 }

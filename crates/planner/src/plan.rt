@@ -68,15 +68,4 @@ impl Plan {
             lower(&mut self.slack[tick + 1..=from]);
         }
     }
-    // The loads as settings, where they are small enough.
-    pub(super) fn settings(&self) -> [u8; 256]
-        requires { (t : ℕ) → t < 256 → slice_index self.now.loads t ≤ 255 }
-        ensures { (t : ℕ) → t < 256 → slice_index result t ≡ slice_index self.now.loads t }
-    {
-        let mut settings = [0; 256];
-        for (tick, setting) in settings.iter_mut().enumerate() {
-            *setting = self.loads[tick] as u8;
-        }
-        settings
-    }
 }

@@ -1,10 +1,7 @@
-use Rattle.std.proofs.Common.{◌≡◌, ◌∙◌, List, sym, ap, arith}
-use Rattle.schedule.specs.Demands.{Demand}
+use Rattle.std.proofs.Common.{◌≡◌, ◌∙◌, sym, ap, arith}
 use Rattle.schedule.specs.Placing.{State, run}
-use Rattle.schedule.specs.InForce.{settings_in_force}
-use Rattle.schedule.proofs.Theory.{theory}
 use Rattle.planner.specs.Plan.{state_of}
-use Rattle.planner.proofs.Runs.{demand_bounded, demand_run, window, all_run, small, in_force}
+use Rattle.planner.proofs.Runs.{demand_bounded, demand_run, window, all_run, loads_same, loads_in_force}
 use Rattle.planner.proofs.settings.Goals as goal
 
 pub loop-demand-preserved : goal.loop-demand-preserved
@@ -25,15 +22,9 @@ loop-demand-init c = record { bounded = λ t. let e : (state_of c.new-plan.resul
 pub fill-requires-clause-window : goal.fill-requires-clause-window
 fill-requires-clause-window c = window c.demands.inside.list.now c.loop-demand.demand-index c.demand-item.result c.demands.invariant c.loop-demand-test.true c.demand-item.is
 
-pub settings-requires : goal.settings-requires
-settings-requires c =
-    let ds = c.demands.inside.list.now in
-    let p = c.loop-demand.plan in
-    small ds p c.demands.invariant (sym (all_run ds c.loop-demand.demand-index (state_of p) c.loop-demand-test.false) ∙ c.loop-demand.invariant.rest)
-
 pub returns : goal.returns
-returns c t lt =
+returns c =
     let ds = c.demands.inside.list.now in
     let p = c.loop-demand.plan in
     let done = sym (all_run ds c.loop-demand.demand-index (state_of p) c.loop-demand-test.false) ∙ c.loop-demand.invariant.rest in
-    c.settings.ensures t (omega (arith, theory.ticks)) ∙ (in_force ds p c.demands.invariant done t lt ∙ ap (λ (xs : List Demand). settings_in_force xs t) c.demands.view_is)
+    rw (← c.demands.view_is) (record { settings = loads_same ds p c.demands.invariant done; in_force = loads_in_force ds p c.demands.invariant done })
