@@ -16,11 +16,15 @@ use Rattle.planner.specs.Hull.{IsHull}
 use Rattle.planner.specs.Queued.{Current, Queued}
 use Rattle.planner.proofs.Queueing.{at_tick, queued_permuted, queued_tail, queued_again, queued_later}
 use Rattle.planner.proofs.Slots.{take_removed}
-use Rattle.planner.proofs.Lows.{low_end_last, low_end_rises, low_end_stays}
+use Rattle.planner.proofs.LowEnds.{low_end_begun, low_end_last, low_end_rises, low_end_stays}
 
-pub nonempty : (s : ℕ → ℕ) (lo to : ℕ) (q : Slots LoadedTick) → lo < to → Queued s lo to (held q) → 0 < q.count
-nonempty s lo to q lt queued = elim (cases_eq q.count 0) [
-  | inl none ↦ absurd (let h : Queued s lo to [] = subst (λ k. Queued s lo to (held record q { count = k })) none queued in omega (arith, h.once lo (omega arith) lt))
+-- a queue with no tick is no hull's
+pub holds_ticks : {st : State} {h : Hull} → IsHull st h → (q : Slots LoadedTick) → Queued st.settings h.start h.to (held q) → 0 < q.count
+holds_ticks {st = st} {h = h} hull q queued = elim (cases_eq q.count 0) [
+  | inl none ↦
+      let empty : Queued st.settings h.start h.to [] = subst (λ k. Queued st.settings h.start h.to (held record q { count = k })) none queued in
+      let begun : h.start < h.to = omega (arith, low_end_begun st.slack h.from, hull.start, h.proper) in
+      absurd (omega (arith, empty.once h.start (omega arith) begun))
   | inr some ↦ omega arith
 ]
 
@@ -75,7 +79,7 @@ module _ {st : State} {h : Hull} {r : Slots LoadedTick} {x : LoadedTick} (t : Ta
   is_spot late = lowest_taken st.settings h.start h.to x (held r) t.queued late t.least ∙ ap (λ l. lowest_tick st.settings l (h.to - l - 1)) t.hull.start
 
   pub in_sight : x.tick < 256
-  in_sight = omega (arith, t.queued.current.0.1, t.hull.in_sight)
+  in_sight = omega (arith, t.queued.current.0.1, h.in_sight)
 
   pub slack_before : h.start ≤ x.tick → (k : ℕ) → x.tick < k → k ≤ h.from → 0 < st.slack k
   slack_before late k xk kf = low_end_last st.slack h.from k (omega (arith, t.hull.start)) kf

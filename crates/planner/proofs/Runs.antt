@@ -1,5 +1,5 @@
 -- Units and demands, one after the other.
-use Rattle.std.proofs.Common.{◌≡◌, ℕ, zero, suc, ◌+◌, ◌-◌, ◌*◌, ◌<◌, ◌≤◌, List, length, get_or, drop, add-zero, refl, sym, ap, subst, ◌∙◌, arith}
+use Rattle.std.proofs.Common.{◌≡◌, ℕ, zero, suc, ◌+◌, ◌-◌, ◌*◌, ◌<◌, ◌≤◌, List, length, get_or, drop, refl, sym, ap, subst, ◌∙◌, arith}
 use Rattle.std.proofs.ByRecursion.{All-get_or}
 use Rattle.std.proofs.lemmas.List.{drop_more, drop_all}
 use Rattle.std.proofs.lemmas.Bool.Decides.{nat_tests}
@@ -12,26 +12,27 @@ use Rattle.schedule.proofs.PlacingLaws.{placing_settled}
 use Rattle.schedule.proofs.Theory.{theory}
 use Rattle.planner.specs.declared.plan.Plan.{Plan}
 use Rattle.planner.specs.Plannable.{Plannable}
-use Rattle.planner.specs.Plan.{state_of, Bounded}
+use Rattle.planner.specs.Plan.{state_of, HasRoom}
 
--- each unit adds at most one to a load and to a slack
-place_bounded : (m f u : ℕ) (st : State) → Bounded m st → Bounded (m + 1) (place_at f u st)
-place_bounded m f u st bounded t = let (load, slack) = bounded t in (grind (arith, nat_tests), grind (arith, nat_tests))
+-- where nothing is placed there is room for all units of 64 demands
+pub empty_room : (st : State) → st ≡ empty → HasRoom (65535 * 64) st
+empty_room st is = rw is (λ t. (omega arith, omega arith))
 
-fill_bounded : (m f t k : ℕ) (st : State) → Bounded m st → Bounded (m + k) (fill f t k st)
-fill_bounded m f t zero st bounded = rw add-zero bounded
-fill_bounded m f t (suc k) st bounded =
-    let e : m + suc k ≡ m + 1 + k = omega arith in
-    rw e (fill_bounded (m + 1) f t k (place_at f (spot f t st) st) (place_bounded m f (spot f t st) st bounded))
+-- a unit takes one of the room at most
+place_room : (k f u : ℕ) (st : State) → HasRoom (k + 1) st → HasRoom k (place_at f u st)
+place_room k f u st room t = let (load, slack) = room t in (grind (arith, nat_tests), grind (arith, nat_tests))
 
-pub more_bounded : (m n : ℕ) (st : State) → m ≤ n → Bounded m st → Bounded n st
-more_bounded m n st le bounded t = let (load, slack) = bounded t in (omega arith, omega arith)
+less_room : (k n : ℕ) (st : State) → n ≤ k → HasRoom k st → HasRoom n st
+less_room k n st le room t = let (load, slack) = room t in (omega arith, omega arith)
+
+fill_room : (k f t n : ℕ) (st : State) → HasRoom (k + n) st → HasRoom k (fill f t n st)
+fill_room k f t zero st room = less_room (k + 0) k st (omega arith) room
+fill_room k f t (suc n) st room = fill_room k f t n (place_at f (spot f t st) st) (place_room (k + n) f (spot f t st) st (less_room (k + suc n) (k + n + 1) st (omega arith) room))
 
 -- one unit of n is placed
-pub unit_bounded : (m i f t : ℕ) (st after : State) → after ≡ place_at f (spot f t st) st → Bounded (m + i) st → Bounded (m + (i + 1)) after
-unit_bounded m i f t st after placed bounded =
-    let e : m + (i + 1) ≡ m + i + 1 = omega arith in
-    rw (placed, e) (place_bounded (m + i) f (spot f t st) st bounded)
+pub unit_room : (i f t : ℕ) (st after : State) → i < 65535 → after ≡ place_at f (spot f t st) st → HasRoom (65535 - i) st → HasRoom (65535 - (i + 1)) after
+unit_room i f t st after lt placed room =
+    rw placed (place_room (65535 - (i + 1)) f (spot f t st) st (less_room (65535 - i) (65535 - (i + 1) + 1) st (omega arith) room))
 
 pub unit_filled : (i n f t : ℕ) (st after : State) → i < n → after ≡ place_at f (spot f t st) st → fill f t (n - (i + 1)) after ≡ fill f t (n - i) st
 unit_filled i n f t st after lt placed =
@@ -40,8 +41,8 @@ unit_filled i n f t st after lt placed =
 
 -- a demand of the list ds is placed, which adds no more units than a number of 16 bits
 module _ (ds : List Demand) (i : ℕ) (d : Demand) (st after : State) (filled : after ≡ fill d.from d.to d.units st) where
-  pub demand_bounded : d.units ≤ 65535 → Bounded (65535 * i) st → Bounded (65535 * (i + 1)) after
-  demand_bounded le bounded = rw filled (more_bounded (65535 * i + d.units) (65535 * (i + 1)) (fill d.from d.to d.units st) (omega arith) (fill_bounded (65535 * i) d.from d.to d.units st bounded))
+  pub demand_room : i < 64 → d.units ≤ 65535 → HasRoom (65535 * (64 - i)) st → HasRoom (65535 * (64 - (i + 1))) after
+  demand_room lt le room = rw filled (fill_room (65535 * (64 - (i + 1))) d.from d.to d.units st (less_room (65535 * (64 - i)) (65535 * (64 - (i + 1)) + d.units) st (omega arith) room))
 
   pub demand_run : i < length ds → d ≡ get_or ds i d → run (drop (i + 1) ds) after ≡ run (drop i ds) st
   demand_run lt is = rw (drop_more ds i d lt, ← is, filled) refl

@@ -1,5 +1,5 @@
 -- Plans of the code and states of the theory.
-use Rattle.std.proofs.Common.{◌≡◌, ℕ, ◌+◌, ◌-◌, ◌<◌, ◌≤◌, get_or, length, set, replicate, List, inl, inr, rules, arith}
+use Rattle.std.proofs.Common.{◌≡◌, ℕ, ◌+◌, ◌-◌, ◌<◌, ◌≤◌, cond, ◌&&◌, ltb, leb, ◌⊎◌, get_or, length, set, replicate, List, ap, ◌∙◌, inl, inr, rules, arith}
 use mathlib.Core.Path.{fun_ext}
 use borrow.Rule.Slice.PartMut.{put_mid, mid_of}
 use Rattle.std.proofs.lemmas.List.{places, get_or-set_same, get_or-set_other, get_or-replicate, get_or_past, length-replicate}
@@ -35,38 +35,32 @@ pub placed : (p : Plan) (f u : ℕ) (slack : List ℕ) → u < length p.loads �
     → state_of record { loads = set p.loads u (get_or p.loads u 0 + 1); slack = slack } ≡ place_at f u (state_of p)
 placed p f u slack within after = state_same record { loads = set p.loads u (get_or p.loads u 0 + 1); slack = slack } (place_at f u (state_of p)) (λ t. put_written p.loads u t within) after
 
--- a part of a list is written, from a up to b
-module _ (a b : ℕ) (xs ys : List ℕ) (within : b ≤ length xs) (ab : a ≤ b) (size : length ys ≡ b - a) where
-  before : (t : ℕ) → t < a → get_or (put_mid a (b - a) xs ys) t 0 ≡ get_or xs t 0
-  before t lt = search (rules, places)
+-- a part of a list, from a up to b, is written anew: g of what was at each place
+module _ (g : ℕ → ℕ) (a b : ℕ) (xs ys : List ℕ) (within : b ≤ length xs) (ab : a ≤ b) (size : length ys ≡ length (mid_of a (b - a) xs))
+    (each : (k : ℕ) → k < length (mid_of a (b - a) xs) → get_or ys k 0 ≡ g (get_or (mid_of a (b - a) xs) k 0)) where
+  part_size : length (mid_of a (b - a) xs) ≡ b - a
+  part_size = search (rules, places)
 
-  past : (t : ℕ) → b ≤ t → get_or (put_mid a (b - a) xs ys) t 0 ≡ get_or xs t 0
-  past t le = search (rules, places)
+  outside : (t : ℕ) → (t < a) ⊎ (b ≤ t) → get_or (put_mid a (b - a) xs ys) t 0 ≡ get_or xs t 0
+  outside t (inl lt) = let total = size ∙ part_size in search (rules, places)
+  outside t (inr le) = let total = size ∙ part_size in search (rules, places)
 
-  amid : (t : ℕ) → a ≤ t → t < b → get_or (put_mid a (b - a) xs ys) t 0 ≡ get_or ys (t - a) 0
-  amid t le lt = search (rules, places)
+  amid : (t : ℕ) → a ≤ t → t < b → get_or (put_mid a (b - a) xs ys) t 0 ≡ g (get_or xs t 0)
+  amid t le lt =
+      let total = size ∙ part_size in
+      let now : get_or (put_mid a (b - a) xs ys) t 0 ≡ get_or ys (t - a) 0 = search (rules, places) in
+      let was : get_or (mid_of a (b - a) xs) (t - a) 0 ≡ get_or xs t 0 = search (rules, places) in
+      now ∙ (each (t - a) (omega (arith, part_size)) ∙ ap g was)
 
-  was : (t : ℕ) → a ≤ t → t < b → get_or (mid_of a (b - a) xs) (t - a) 0 ≡ get_or xs t 0
-  was t le lt = search (rules, places)
+  part_written : (t : ℕ) → get_or (put_mid a (b - a) xs ys) t 0 ≡ cond (leb a t && ltb t b) (g (get_or xs t 0)) (get_or xs t 0)
+  part_written t = grind (arith, nat_tests, outside t, amid t)
 
-pub raised : (f u : ℕ) (xs ys : List ℕ) → f < u → u < length xs → length ys ≡ u + 1 - (f + 1)
-    → ((k : ℕ) → k < u + 1 - (f + 1) → get_or ys k 0 ≡ get_or (mid_of (f + 1) (u + 1 - (f + 1)) xs) k 0 + 1)
+pub raised : (f u : ℕ) (xs ys : List ℕ) → f < u → u < length xs → length ys ≡ length (mid_of (f + 1) (u + 1 - (f + 1)) xs)
+    → ((k : ℕ) → k < length (mid_of (f + 1) (u + 1 - (f + 1)) xs) → get_or ys k 0 ≡ get_or (mid_of (f + 1) (u + 1 - (f + 1)) xs) k 0 + 1)
     → (t : ℕ) → get_or (put_mid (f + 1) (u + 1 - (f + 1)) xs ys) t 0 ≡ slack_after f u (listed xs) t
-raised f u xs ys fu within size each t = elim (cases_lt t (f + 1)) [
-  | inl lt ↦ grind (arith, nat_tests, before (f + 1) (u + 1) xs ys (omega arith) (omega arith) size t lt)
-  | inr ge ↦ elim (cases_lt t (u + 1)) [
-    | inl lt ↦ grind (arith, nat_tests, amid (f + 1) (u + 1) xs ys (omega arith) (omega arith) size t ge lt, was (f + 1) (u + 1) xs ys (omega arith) (omega arith) size t ge lt, each (t - (f + 1)) (omega arith))
-    | inr past_end ↦ grind (arith, nat_tests, past (f + 1) (u + 1) xs ys (omega arith) (omega arith) size t past_end)
-  ]
-]
+raised f u xs ys fu within size each t = grind (arith, nat_tests, part_written (λ n. n + 1) (f + 1) (u + 1) xs ys (omega arith) (omega arith) size each t)
 
-pub lowered : (f u : ℕ) (xs ys : List ℕ) → u ≤ f → f < length xs → length ys ≡ f + 1 - (u + 1)
-    → ((k : ℕ) → k < f + 1 - (u + 1) → get_or ys k 0 ≡ get_or (mid_of (u + 1) (f + 1 - (u + 1)) xs) k 0 - 1)
+pub lowered : (f u : ℕ) (xs ys : List ℕ) → u ≤ f → f < length xs → length ys ≡ length (mid_of (u + 1) (f + 1 - (u + 1)) xs)
+    → ((k : ℕ) → k < length (mid_of (u + 1) (f + 1 - (u + 1)) xs) → get_or ys k 0 ≡ get_or (mid_of (u + 1) (f + 1 - (u + 1)) xs) k 0 - 1)
     → (t : ℕ) → get_or (put_mid (u + 1) (f + 1 - (u + 1)) xs ys) t 0 ≡ slack_after f u (listed xs) t
-lowered f u xs ys uf within size each t = elim (cases_lt t (u + 1)) [
-  | inl lt ↦ grind (arith, nat_tests, before (u + 1) (f + 1) xs ys (omega arith) (omega arith) size t lt)
-  | inr ge ↦ elim (cases_lt t (f + 1)) [
-    | inl lt ↦ grind (arith, nat_tests, amid (u + 1) (f + 1) xs ys (omega arith) (omega arith) size t ge lt, was (u + 1) (f + 1) xs ys (omega arith) (omega arith) size t ge lt, each (t - (u + 1)) (omega arith))
-    | inr past_end ↦ grind (arith, nat_tests, past (u + 1) (f + 1) xs ys (omega arith) (omega arith) size t past_end)
-  ]
-]
+lowered f u xs ys uf within size each t = grind (arith, nat_tests, part_written (λ n. n - 1) (u + 1) (f + 1) xs ys (omega arith) (omega arith) size each t)

@@ -1,5 +1,5 @@
 -- What a plan says.
-use Rattle.std.specs.Prelude.{ℕ, ◌≤◌}
+use Rattle.std.specs.Prelude.{ℕ, ◌+◌, ◌^◌, ◌<◌}
 use Rattle.schedule.specs.Placing.{State}
 use Rattle.schedule.specs.Certificate.{listed}
 use Rattle.planner.specs.declared.plan.Plan.{Plan}
@@ -8,6 +8,6 @@ use Rattle.planner.specs.declared.plan.Plan.{Plan}
 abbrev pub state_of : Plan → State
 state_of p = record { settings = listed p.loads; slack = listed p.slack }
 
--- no load and no slack is above m
-abbrev pub Bounded : ℕ → State → Type 0
-Bounded m st = (t : ℕ) → (st.settings t ≤ m) × (st.slack t ≤ m)
+-- k units more fit each setting and each slack, as numbers of 32 bits
+abbrev pub HasRoom : ℕ → State → Type 0
+HasRoom k st = (t : ℕ) → (st.settings t + k < 2 ^ 32) × (st.slack t + k < 2 ^ 32)

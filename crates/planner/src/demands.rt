@@ -25,6 +25,8 @@ impl Model for Demand {
 }
 
 /// Demands that settings can be made for: at most 64, each with its window within 256 ticks, in order of deadline.
+///
+/// `new` tests a list. Where it is known to be such a list, `Demands { list }` tests nothing.
 #[derive(Drop)]
 pub struct Demands<'a> {
     pub list: &'a [Demand],

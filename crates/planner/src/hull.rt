@@ -12,10 +12,12 @@ pub(super) struct Hull<'a> {
     to: usize,
     start: usize,
     ticks: TickQueue<'a>,
+    ghost proper: { from < to },
+    ghost in_sight: { to ≤ 256 },
 }
 
 impl<'a> Hull<'a> {
-    ghost use Rattle.planner.specs.Plan.{state_of, Bounded};
+    ghost use Rattle.planner.specs.Plan.{state_of, HasRoom};
     ghost use Rattle.planner.specs.Hull.{IsHull};
 
     // The hull of the window in a plan. Its queue is in these slots.
@@ -48,7 +50,7 @@ impl<'a> Hull<'a> {
     // One unit more of the window is placed, at the least loaded tick.
     pub(super) fn place_unit(&mut self, plan: &mut Plan)
         requires hull { IsHull (state_of plan.old) self.old }
-        requires room { Bounded 4294967294 (state_of plan.old) }
+        requires room { HasRoom 1 (state_of plan.old) }
         ensures placed { state_of plan.new ≡ place_at self.old.from (spot self.old.from self.old.to (state_of plan.old)) (state_of plan.old) }
         ensures hull { IsHull (state_of plan.new) self.new }
         ensures window { (self.new.from ≡ self.old.from) × (self.new.to ≡ self.old.to) }

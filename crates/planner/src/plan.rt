@@ -1,5 +1,5 @@
 // The units placed so far.
-ghost use Rattle.std.specs.Prelude.{◌≡◌, ℕ, ◌+◌, ◌-◌, ◌<◌, ◌≤◌, length, slice_index};
+ghost use Rattle.std.specs.Prelude.{◌≡◌, ℕ, ◌+◌, ◌-◌, ◌^◌, ◌<◌, ◌≤◌, length, slice_index};
 ghost use Rattle.schedule.specs.Placing.{empty, low_end, place_at};
 
 // The units that are placed in each tick, and the slack at each, by which the units placed from it on exceed those of the windows that start there or later.
@@ -11,7 +11,7 @@ pub(super) struct Plan {
 
 // One more at each place.
 fn raise(slack: &mut [u32])
-    requires { (k : ℕ) → slice_index slack.old k ≤ 4294967294 }
+    requires { (k : ℕ) → slice_index slack.old k + 1 < 2 ^ 32 }
     ensures { (k : ℕ) → k < length slack.old → slice_index slack.new k ≡ slice_index slack.old k + 1 }
 {
     for place in slack {
@@ -30,7 +30,7 @@ fn lower(slack: &mut [u32])
 }
 
 impl Plan {
-    ghost use Rattle.planner.specs.Plan.{state_of, Bounded};
+    ghost use Rattle.planner.specs.Plan.{state_of, HasRoom};
 
     // Nothing is placed yet.
     pub(super) fn new() -> Plan
@@ -57,7 +57,7 @@ impl Plan {
     pub(super) fn place(&mut self, from: usize, tick: usize)
         requires window { from < 256 }
         requires tick { tick < 256 }
-        requires room { Bounded 4294967294 (state_of self.old) }
+        requires room { HasRoom 1 (state_of self.old) }
         requires slack { (k : ℕ) → tick < k → k ≤ from → 0 < (state_of self.old).slack k }
         ensures { state_of self.new ≡ place_at from tick (state_of self.old) }
     {

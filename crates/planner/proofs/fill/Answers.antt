@@ -2,7 +2,7 @@ use Rattle.std.proofs.Common.{◌≡◌, ◌<◌, ◌∙◌, ap, arith}
 use Rattle.schedule.specs.Demands.{Demand}
 use Rattle.schedule.specs.Placing.{place_at, spot}
 use Rattle.planner.specs.Plan.{state_of}
-use Rattle.planner.proofs.Runs.{unit_bounded, unit_filled}
+use Rattle.planner.proofs.Runs.{unit_room, unit_filled}
 use Rattle.planner.proofs.fill.Goals as goal
 
 pub loop-preserved : goal.loop-preserved
@@ -15,7 +15,7 @@ loop-preserved c =
     let placed : after ≡ place_at d.from (spot d.from d.to st) st = rw (← before.from, ← before.to) c.place_unit.ensures.placed in
     let lt : i < d.units = omega (arith, ap (λ (x : Demand). x.units) c.demand.view_is) in
     record {
-      bounded = unit_bounded 4294901760 i d.from d.to st after placed before.bounded;
+      room = unit_room i d.from d.to st after (omega arith) placed before.room;
       hull = c.place_unit.ensures.hull;
       from = c.place_unit.ensures.window.0 ∙ before.from;
       to = c.place_unit.ensures.window.1 ∙ before.to;

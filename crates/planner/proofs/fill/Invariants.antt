@@ -1,12 +1,12 @@
-use Rattle.std.proofs.Common.{◌≡◌, ◌+◌, ◌-◌}
+use Rattle.std.proofs.Common.{◌≡◌, ◌-◌}
 use Rattle.schedule.specs.Placing.{fill}
-use Rattle.planner.specs.Plan.{state_of, Bounded}
+use Rattle.planner.specs.Plan.{state_of, HasRoom}
 use Rattle.planner.specs.Hull.{IsHull}
 use Rattle.planner.proofs.fill.Given as goal
 
 abbrev pub invariant-loop : goal.invariant-loop
 invariant-loop l = record {
-  bounded : Bounded (4294901760 + l.counter) (state_of l.plan);
+  room : HasRoom (65535 - l.counter) (state_of l.plan);
   hull : IsHull (state_of l.plan) l.hull;
   from : l.hull.from ≡ l.demand.from;
   to : l.hull.to ≡ l.demand.to;

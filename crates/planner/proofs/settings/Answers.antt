@@ -1,8 +1,11 @@
-use Rattle.std.proofs.Common.{◌≡◌, ◌∙◌, sym, ap, arith}
-use Rattle.schedule.specs.Placing.{State, run}
+use Rattle.std.proofs.Common.{◌∙◌, sym, ap, arith}
+use Rattle.schedule.specs.Placing.{run}
 use Rattle.planner.specs.Plan.{state_of}
-use Rattle.planner.proofs.Runs.{demand_bounded, demand_run, window, all_run, loads_same, loads_in_force}
+use Rattle.planner.proofs.Runs.{empty_room, demand_room, demand_run, window, all_run, loads_same, loads_in_force}
 use Rattle.planner.proofs.settings.Goals as goal
+
+pub loop-demand-init : goal.loop-demand-init
+loop-demand-init c = record { room = empty_room (state_of c.new-plan.result) c.new-plan.ensures; rest = ap (run c.demands.inside.list.now) c.new-plan.ensures }
 
 pub loop-demand-preserved : goal.loop-demand-preserved
 loop-demand-preserved c =
@@ -12,12 +15,9 @@ loop-demand-preserved c =
     let st = state_of c.loop-demand.plan in
     let after = state_of c.fill.new.plan in
     record {
-      bounded = demand_bounded ds i d st after c.fill.ensures.filled c.fill.ensures.units c.loop-demand.invariant.bounded;
+      room = demand_room ds i d st after c.fill.ensures.filled (omega arith) c.fill.ensures.units c.loop-demand.invariant.room;
       rest = demand_run ds i d st after c.fill.ensures.filled c.loop-demand-test.true c.demand-item.is ∙ c.loop-demand.invariant.rest;
     }
-
-pub loop-demand-init : goal.loop-demand-init
-loop-demand-init c = record { bounded = λ t. let e : (state_of c.new-plan.result).settings t ≡ 0 = ap (λ (st : State). st.settings t) c.new-plan.ensures in let f : (state_of c.new-plan.result).slack t ≡ 0 = ap (λ (st : State). st.slack t) c.new-plan.ensures in (omega arith, omega arith); rest = ap (run c.demands.inside.list.now) c.new-plan.ensures }
 
 pub fill-requires-clause-window : goal.fill-requires-clause-window
 fill-requires-clause-window c = window c.demands.inside.list.now c.loop-demand.demand-index c.demand-item.result c.demands.invariant c.loop-demand-test.true c.demand-item.is

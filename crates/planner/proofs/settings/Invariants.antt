@@ -1,10 +1,10 @@
-use Rattle.std.proofs.Common.{◌≡◌, ◌*◌, drop}
+use Rattle.std.proofs.Common.{◌≡◌, ◌*◌, ◌-◌, drop}
 use Rattle.schedule.specs.Placing.{run, empty}
-use Rattle.planner.specs.Plan.{state_of, Bounded}
+use Rattle.planner.specs.Plan.{state_of, HasRoom}
 use Rattle.planner.proofs.settings.Given as goal
 
 abbrev pub invariant-loop-demand : goal.invariant-loop-demand
 invariant-loop-demand l = record {
-  bounded : Bounded (65535 * l.demand-index) (state_of l.plan);
+  room : HasRoom (65535 * (64 - l.demand-index)) (state_of l.plan);
   rest : run (drop l.demand-index l.demand-items) (state_of l.plan) ≡ run l.demand-items empty;
 }

@@ -5,7 +5,7 @@ use Rattle.schedule.specs.Certificate.{listed}
 use Rattle.planner.proofs.Slots.{put_added}
 use Rattle.planner.proofs.Queueing.{queued_more, queued_permuted}
 use Rattle.planner.specs.Queued.{Queued}
-use Rattle.planner.proofs.Lows.{low_end_begun}
+use Rattle.planner.proofs.LowEnds.{low_end_begun}
 use Rattle.planner.proofs.hull.Hull.new.Goals as goal
 
 pub loop-tick-preserved : goal.loop-tick-preserved
@@ -28,8 +28,6 @@ returns-clause-hull c =
     let le : c.hull_start-start.result ≤ c.args.to = omega (arith, begun, c.hull_start-start.ensures) in
     let done : c.loop-tick.tick ≡ c.args.to = omega (arith, c.loop-tick.auto.tick-end le) in
     record {
-      proper = c.requires.proper;
-      in_sight = c.requires.in_sight;
       start = c.hull_start-start.ensures;
       queued = subst (λ t. Queued s c.hull_start-start.result t (held (slots_of c.loop-tick.ticks))) done c.loop-tick.invariant.queued;
     }

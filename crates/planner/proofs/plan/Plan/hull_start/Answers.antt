@@ -1,5 +1,5 @@
 use Rattle.std.proofs.Common.{◌+◌, take, ◌∙◌, rules}
-use Rattle.planner.proofs.Lows.{LastZero, low_end_found}
+use Rattle.planner.proofs.LowEnds.{LastZero, low_end_found}
 use Rattle.planner.proofs.plan.Plan.hull_start.Goals as goal
 
 pub returns : goal.returns
