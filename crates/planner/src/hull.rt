@@ -5,7 +5,8 @@ ghost use Rattle.schedule.specs.Placing.{place_at, spot};
 use super::plan::Plan;
 use queue::{LoadedTick, TickQueue};
 
-// The hull of the window [from, to), which ends with it. Its ticks wait in a queue, the least loaded first; ticks before its start may wait there too.
+// The hull of the window [from, to): the ticks from its start to the end of the window. They are queued, the least loaded
+// first; ticks before the start may be queued too.
 #[derive(Drop)]
 pub(super) struct Hull<'a> {
     from: usize,
@@ -20,7 +21,7 @@ impl<'a> Hull<'a> {
     ghost use Rattle.planner.specs.Plan.{state_of, HasRoom};
     ghost use Rattle.planner.specs.Hull.{IsHull};
 
-    // The hull of the window in a plan. Its queue is in these slots.
+    // The hull of a window in a plan, with its queue in these slots.
     pub(super) fn new(
         slots: &'a mut [LoadedTick; 256],
         plan: &Plan,
@@ -47,7 +48,7 @@ impl<'a> Hull<'a> {
         }
     }
 
-    // One unit more of the window is placed, at the least loaded tick.
+    // One unit more of the window is placed, at the least loaded tick of the hull.
     pub(super) fn place_unit(&mut self, plan: &mut Plan)
         requires hull { IsHull (state_of plan.old) self.old }
         requires room { HasRoom 1 (state_of plan.old) }

@@ -1,7 +1,8 @@
 //! The planner: it makes the settings in force for demands.
 //!
-//! The units of the demands are placed one by one, in order of deadline, each at the least loaded tick of its hull. The hull of a window is where room can be made for
-//! one unit more of it: it goes from the last tick up to the window's start that has no slack to the window's end. That ends in the settings in force.
+//! The units of the demands are placed one by one, in order of deadline, each at the least loaded tick of its hull. The hull of
+//! a window is where room can be made for one unit more of it: it goes from the last tick up to the window's start that has no
+//! slack to the window's end. That ends in the settings in force.
 //!
 //! ```text
 //! let list = [
@@ -13,10 +14,11 @@
 //! let settings = settings(&demands);
 //! ```
 //!
-//! `queue::TickQueue` holds the ticks of a hull. A unit costs a take and a put there, and a pass over the ticks between its place and the start of its window. Nothing
-//! is taken from a heap of memory.
+//! `queue::TickQueue` holds the ticks of a hull. A unit costs a take and a put there, and a pass over the ticks between its place
+//! and the start of its window. Nothing is taken from a heap of memory.
 //!
-//! No top is known here, and the settings are as great as the demands need. Where no interval is overloaded, they stay within the top.
+//! No top is known here, and the settings are as great as the demands need. Where no interval is overloaded, they stay within
+//! the top.
 #![tactic(auto)]
 
 ghost use Rattle.std.specs.Prelude.{◌≡◌, ◌≤◌};

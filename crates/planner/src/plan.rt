@@ -2,14 +2,15 @@
 ghost use Rattle.std.specs.Prelude.{◌≡◌, ℕ, ◌+◌, ◌-◌, ◌^◌, ◌<◌, ◌≤◌, length, slice_index};
 ghost use Rattle.schedule.specs.Placing.{empty, low_end, place_at};
 
-// The units that are placed in each tick, and the slack at each, by which the units placed from it on exceed those of the windows that start there or later.
+// The units that are placed in each tick so far, and the slack at each tick: by how much the units placed from there on exceed
+// those of the windows that start there or later.
 #[derive(Drop)]
 pub(super) struct Plan {
     pub(super) loads: [u32; 256],
     slack: [u32; 256],
 }
 
-// One more at each place.
+// One slack more at each place.
 fn raise(slack: &mut [u32])
     requires { (k : ℕ) → slice_index slack.old k + 1 < 2 ^ 32 }
     ensures { (k : ℕ) → k < length slack.old → slice_index slack.new k ≡ slice_index slack.old k + 1 }
@@ -19,7 +20,7 @@ fn raise(slack: &mut [u32])
     }
 }
 
-// One less at each place.
+// One slack less at each place.
 fn lower(slack: &mut [u32])
     requires { (k : ℕ) → k < length slack.old → 0 < slice_index slack.old k }
     ensures { (k : ℕ) → k < length slack.old → slice_index slack.new k ≡ slice_index slack.old k - 1 }
@@ -32,7 +33,7 @@ fn lower(slack: &mut [u32])
 impl Plan {
     ghost use Rattle.planner.specs.Plan.{state_of, HasRoom};
 
-    // Nothing is placed yet.
+    // A plan in which nothing is placed yet.
     pub(super) fn new() -> Plan
         ensures { state_of result ≡ empty }
     {
