@@ -13,6 +13,7 @@ pub enum Layer {
     Queue,
     Power,
     Record,
+    Book,
     Bench,
 }
 
