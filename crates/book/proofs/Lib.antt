@@ -1,0 +1,11 @@
+-- what demands are of the jobs that they come from
+pub mod DemandFacts
+-- the search through starts and ends
+pub mod Searching
+-- the open jobs in their places, and lists with one more or one less
+pub mod Places
+pub mod Jobs
+-- calls leave lawful books
+pub mod Keeping
+pub mod Striking
+pub mod Offering

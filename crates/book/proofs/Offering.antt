@@ -1,0 +1,146 @@
+-- What an offer answers and leaves.
+use Rattle.std.proofs.Common.{◌≡◌, ◌≢◌, ℕ, ◌+◌, ◌<◌, ◌≤◌, true, false, not, inl, inr, List, length, get_or, Option, Some, None, Ok, Err, refl, sym, arith, rules, subst}
+use Rattle.std.specs.List.{All, AllPairs, position_or_len}
+use Rattle.std.specs.Option.{option_map, option_or}
+use Rattle.std.proofs.lemmas.Bool.{cases_eq, both_ways}
+use Rattle.std.proofs.lemmas.Bool.Decides.{nat_tests}
+use Rattle.std.proofs.lemmas.List.Edits.{length-insert}
+use Rattle.std.proofs.lemmas.List.Folds.{list_any_at}
+use Rattle.std.proofs.lemmas.List.Sums.{fails_before_first, passes_at_first, prefix_len-le-length}
+use Rattle.schedule.specs.Demands.{Sound}
+use Rattle.schedule.specs.InForce.{horizon}
+use Rattle.schedule.specs.Overload.{Searched}
+use Rattle.schedule.proofs.Theory.{theory}
+use Rattle.book.specs.declared.job.Job.{Job}
+use Rattle.book.specs.declared.fault.BookFault.{BookFault}
+use Rattle.book.specs.declared.fault.BookFault.TheVariants.{Field, Overload}
+use Rattle.book.specs.Jobs.{is_before, has_ticket, is_open, with_job}
+use Rattle.book.specs.Demands.{demands}
+use Rattle.book.specs.Book.{View, OpenAt, InOrder, Lawful}
+use Rattle.book.specs.Calls.{answer_of, field_fault, place_fault, early_fault, overload_in, counted}
+use Rattle.book.specs.Offers.{IsDoable, IsOverload, OnlyOverload}
+use Rattle.book.proofs.DemandFacts.{sound-demands}
+use Rattle.book.proofs.Jobs.{All-insert, AllPairs-insert}
+
+-- the order of two jobs
+before-trans : (i j k : Job) → is_before i j ≡ true → is_before j k ≡ true → is_before i k ≡ true
+before-trans i j k p q = grind (arith, nat_tests)
+
+before-total : (j k : Job) → j.ticket ≢ k.ticket → is_before j k ≡ false → is_before k j ≡ true
+before-total j k apart p = grind (arith, nat_tests)
+
+-- where no job has the ticket, each has another
+others : (t : ℕ) (js : List Job) → is_open t js ≡ false → (k : ℕ) (d : Job) → k < length js → (get_or js k d).ticket ≢ t
+others t js closed k d lt same = both_ways (is_open t js) closed (list_any_at (has_ticket t) js k d lt (grind (arith, nat_tests)))
+
+-- one job more keeps the order and the tickets apart
+in_order-with_job : (j : Job) (js : List Job) → is_open j.ticket js ≡ false → InOrder js → InOrder (with_job j js)
+in_order-with_job j js closed order =
+    let place = position_or_len (is_before j) js in
+    let le : place ≤ length js = prefix_len-le-length (λ k. not (is_before j k)) js in
+    AllPairs-insert (λ i k. is_before i k ≡ true) js place j le order
+    (λ k d lt. before-total j (get_or js k d) (λ e. others j.ticket js closed k d (omega arith) (sym e)) (fails_before_first (is_before j) js k d lt))
+    (λ k d from lt.
+    let here = passes_at_first (is_before j) js d (omega arith) in
+    elim (cases_eq place k) [
+      | inl same ↦ subst (λ x. is_before j (get_or js x d) ≡ true) same here
+      | inr apart ↦ before-trans j (get_or js place d) (get_or js k d) here (order place k d (omega arith) lt)
+    ])
+
+tickets_differ-with_job : (j : Job) (js : List Job) → is_open j.ticket js ≡ false → AllPairs (λ i k. i.ticket ≢ k.ticket) js → AllPairs (λ i k. i.ticket ≢ k.ticket) (with_job j js)
+tickets_differ-with_job j js closed differ =
+    let place = position_or_len (is_before j) js in
+    let le : place ≤ length js = prefix_len-le-length (λ k. not (is_before j k)) js in
+    AllPairs-insert (λ i k. i.ticket ≢ k.ticket) js place j le differ
+    (λ k d lt. others j.ticket js closed k d (omega arith))
+    (λ k d from lt e. others j.ticket js closed k d lt (sym e))
+
+-- what an offer has that passes its first checks
+pub record Passed (b : View) (j : Job) : Type 0 where
+  pub is_open_at : OpenAt b.now j
+  pub closed : is_open j.ticket b.jobs ≡ false
+  pub room : length b.jobs < 64
+
+both_none : {A B : Type 0} (f : A → B) (o : Option A) (p : Option B) → option_or (option_map f o) p ≡ None → (o ≡ None) × (p ≡ None)
+both_none f None p e = (refl, e)
+both_none f (Some x) p e = absurd (cc)
+
+open_fields : (now : ℕ) (j : Job) → field_fault now j ≡ None → OpenAt now j
+open_fields now j e = record {
+  ticket = grind (arith, nat_tests);
+  work_left = grind (arith, nat_tests);
+  not_due = grind (arith, nat_tests);
+  in_sight = grind (arith, nat_tests);
+  in_time = grind (arith, nat_tests);
+  window = grind (arith, nat_tests);
+  short_window = grind (arith, nat_tests);
+}
+
+pub passed : (b : View) (j : Job) → early_fault b j ≡ None → Passed b j
+passed b j e =
+    let none = both_none Field (field_fault b.now j) (place_fault b.jobs j) e in
+    let fields = none.0 in
+    let places = none.1 in
+    record { is_open_at = open_fields b.now j fields; closed = grind (arith, nat_tests); room = grind (arith, nat_tests) }
+
+pub no_fault : {A : Type 0} (o : Option A) → answer_of o ≡ Ok tt → o ≡ None
+no_fault None e = refl
+no_fault (Some x) e = absurd (cc)
+
+-- the offered job counted, in a lawful book
+module _ (b : View) (j : Job) (lawful : Lawful b) (ok : Passed b j) where
+  pub counted_order : InOrder (with_job j b.jobs)
+  counted_order = in_order-with_job j b.jobs ok.closed lawful.in_order
+
+  pub counted_open : All (OpenAt b.now) (with_job j b.jobs)
+  counted_open = All-insert (OpenAt b.now) b.jobs (position_or_len (is_before j) b.jobs) j ok.is_open_at lawful.jobs_open
+
+  counted_sound : Sound horizon (demands b.now (with_job j b.jobs))
+  counted_sound = sound-demands horizon b.now (with_job j b.jobs) theory.ticks counted_open
+
+  counted_searched : Searched horizon (demands b.now (with_job j b.jobs)) b.top (overload_in (counted b j))
+  counted_searched = theory.enough.searched horizon b.top (demands b.now (with_job j b.jobs)) counted_sound
+
+  pub counted_lawful : overload_in (counted b j) ≡ None → Lawful (counted b j)
+  counted_lawful none = record {
+    in_time = lawful.in_time;
+    top_above_none = lawful.top_above_none;
+    top_fits = lawful.top_fits;
+    few = omega (arith, length-insert b.jobs (position_or_len (is_before j) b.jobs) j (prefix_len-le-length (λ k. not (is_before j k)) b.jobs), ok.room);
+    tickets_differ = tickets_differ-with_job j b.jobs ok.closed lawful.tickets_differ;
+    in_order = counted_order;
+    jobs_open = counted_open;
+    none_overloaded = subst (Searched horizon (demands b.now (with_job j b.jobs)) b.top) none counted_searched;
+  }
+
+  -- an interval that is found lies in sight
+  pub counted_in_sight : (x y : ℕ) → overload_in (counted b j) ≡ Some (x, y) → (x < y) × (y ≤ 256)
+  counted_in_sight x y some =
+      let found = subst (Searched horizon (demands b.now (with_job j b.jobs)) b.top) some counted_searched in
+      let ticks = theory.ticks in
+      (found.0.proper, omega (arith, found.0.in_sight))
+
+  -- the search finds none just where the work can be done
+  pub counted_doable : overload_in (counted b j) ≡ None → IsDoable (counted b j)
+  counted_doable none = (theory.enough.up_to_top horizon (demands b.now (with_job j b.jobs)) b.top counted_sound).0 (counted_lawful none).none_overloaded
+
+  pub counted_not_doable : (x y : ℕ) → overload_in (counted b j) ≡ Some (x, y) → IsDoable (counted b j) → ⊥
+  counted_not_doable x y some can =
+      let found = subst (Searched horizon (demands b.now (with_job j b.jobs)) b.top) some counted_searched in
+      found.1 ((theory.enough.up_to_top horizon (demands b.now (with_job j b.jobs)) b.top counted_sound).1 can)
+
+-- what an answer tells of the work that can be done
+module _ (b : View) (j : Job) (lawful : Lawful b) where
+  pub accepted_only : early_fault b j ≡ None → overload_in (counted b j) ≡ None → OnlyOverload b j (Ok tt)
+  accepted_only early none =
+      let can = counted_doable b j lawful (passed b j early) none in
+      record { accepted = (λ _. (early, can), λ _. search rules); refused = (λ no. absurd no, λ cannot. absurd (cannot.1 can)) }
+
+  pub refused_only : (x y w : ℕ) → early_fault b j ≡ None → overload_in (counted b j) ≡ Some (x, y) → OnlyOverload b j (Err (Overload (b.now + x) (b.now + y) w))
+  refused_only x y w early some =
+      let cannot = counted_not_doable b j lawful (passed b j early) x y some in
+      record { accepted = (λ no. absurd (search rules), λ can. absurd (cannot can.1)); refused = (λ _. (early, cannot), λ _. tt) }
+
+  pub early_only : (fault : BookFault) → early_fault b j ≡ Some fault → (IsOverload (Err fault) → ⊥) → OnlyOverload b j (Err fault)
+  early_only fault early other =
+      record { accepted = (λ no. absurd (search rules), λ can. absurd (cc)); refused = (λ is. absurd (other is), λ cannot. absurd (cc)) }

@@ -1,0 +1,18 @@
+-- What a strike answers and leaves, by the place of the ticket.
+use Rattle.std.proofs.Common.{◌≡◌, ℕ, Some, None, Ok, Err, refl}
+use Rattle.std.specs.List.{position, remove}
+use Rattle.book.specs.declared.fault.BookFault.TheVariants.{NotOpen}
+use Rattle.book.specs.Jobs.{has_ticket}
+use Rattle.book.specs.Book.{View, Lawful, with_jobs}
+use Rattle.book.specs.Calls.{struck}
+use Rattle.book.proofs.Jobs.{not_open, found_open, found_without}
+use Rattle.book.proofs.Keeping.{lawful-without}
+
+pub struck_missed : (t : ℕ) (b : View) → position (has_ticket t) b.jobs ≡ None → struck b t ≡ record { answer = Err (NotOpen t); book = b }
+struck_missed t b e = rw (not_open (has_ticket t) b.jobs e) refl
+
+pub struck_found : (t i : ℕ) (b : View) → Lawful b → position (has_ticket t) b.jobs ≡ Some i → struck b t ≡ record { answer = Ok tt; book = with_jobs (remove b.jobs i) b }
+struck_found t i b h e = rw (found_open t i b.jobs e, found_without t i b.jobs e h.tickets_differ) refl
+
+pub lawful_removed : (t i : ℕ) (b : View) → Lawful b → position (has_ticket t) b.jobs ≡ Some i → Lawful (with_jobs (remove b.jobs i) b)
+lawful_removed t i b h e = rw (found_without t i b.jobs e h.tickets_differ) (lawful-without t b h)

@@ -1,0 +1,51 @@
+-- Books as callers see them, and which are lawful.
+use Rattle.std.specs.Prelude.{◌≡◌, ◌≢◌, ℕ, ◌+◌, ◌<◌, ◌≤◌, true, List, [], length, All}
+use Rattle.std.specs.List.{AllPairs}
+use Rattle.schedule.specs.InForce.{horizon}
+use Rattle.schedule.specs.Overload.{NoneOverloaded}
+use Rattle.book.specs.declared.job.Job.{Job}
+use Rattle.book.specs.Jobs.{is_before}
+use Rattle.book.specs.Demands.{demands}
+
+-- a book: now, the top, and the open jobs in the order of serving
+pub record View : Type 0 where
+  pub now : ℕ
+  pub top : ℕ
+  pub jobs : List Job
+
+-- the last tick of all, 2^48 − 1
+abbrev pub last_tick : ℕ
+last_tick = 281474976710655
+
+-- a job as it can be open at now
+pub record OpenAt (now : ℕ) (j : Job) : Type 0 where
+  pub ticket : 0 < j.ticket
+  pub work_left : 0 < j.work
+  pub not_due : now < j.deadline
+  pub in_sight : j.deadline ≤ now + 256
+  pub in_time : j.deadline ≤ last_tick
+  pub window : j.arrival < j.deadline
+  pub short_window : j.deadline ≤ j.arrival + 256
+
+-- jobs in the order of serving
+abbrev pub InOrder : List Job → Type 0
+InOrder jobs = AllPairs (λ j k. is_before j k ≡ true) jobs
+
+-- a lawful book
+pub record Lawful (b : View) : Type 0 where
+  pub in_time : b.now ≤ last_tick
+  pub top_above_none : 1 ≤ b.top
+  pub top_fits : b.top ≤ 255
+  pub few : length b.jobs ≤ 64
+  pub tickets_differ : AllPairs (λ j k. j.ticket ≢ k.ticket) b.jobs
+  pub in_order : InOrder b.jobs
+  pub jobs_open : All (OpenAt b.now) b.jobs
+  pub none_overloaded : NoneOverloaded horizon (demands b.now b.jobs) b.top
+
+-- an empty book
+abbrev pub empty_book : (now top : ℕ) → View
+empty_book now top = record { now = now; top = top; jobs = [] }
+
+-- a book with other open jobs
+abbrev pub with_jobs : List Job → View → View
+with_jobs jobs b = record { now = b.now; top = b.top; jobs = jobs }

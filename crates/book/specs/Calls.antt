@@ -1,0 +1,85 @@
+-- What each call answers, and the book that it leaves. The checks run in ascending order of the refusals' numbers and fields.
+use Rattle.std.specs.Prelude.{ℕ, ◌+◌, ◌||◌, if◌then◌else◌, List, length, Some, None, Ok, Err, Option, Result, ◌==◌, nat_lt, nat_le}
+use Rattle.std.specs.Option.{option_map, option_or}
+use Rattle.schedule.specs.InForce.{horizon}
+use Rattle.schedule.specs.Overload.{first_overload}
+use Rattle.schedule.specs.Work.{work}
+use Rattle.book.specs.declared.job.Job.{Job}
+use Rattle.book.specs.declared.fault.BookFault.{BookFault}
+use Rattle.book.specs.declared.fault.BookFault.TheVariants.{Field, TicketOpen, Full, Overload, NotOpen}
+use Rattle.book.specs.declared.fault.BookField.{BookField}
+use Rattle.book.specs.declared.fault.BookField.TheVariants.{Ticket, Arrival, Deadline, Work, Start, Top}
+use Rattle.book.specs.Jobs.{is_open, with_job, without}
+use Rattle.book.specs.Demands.{demands}
+use Rattle.book.specs.Book.{View, last_tick, empty_book, with_jobs}
+
+-- what a call answers, and the book that it leaves
+pub record Outcome : Type 0 where
+  pub answer : Result (Unit {0}) BookFault
+  pub book : View
+
+-- a call is refused with its fault, if there is one
+abbrev pub answer_of : {F : Type 0} → Option F → Result (Unit {0}) F
+answer_of None = Ok tt
+answer_of (Some fault) = Err fault
+
+-- what a refused call leaves is the book as it was
+abbrev pub unless : Option BookFault → (before after : View) → Outcome
+unless None before after = record { answer = Ok tt; book = after }
+unless (Some fault) before after = record { answer = Err fault; book = before }
+
+-- why a book is not opened
+abbrev pub open_fault : (start top : ℕ) → Option BookFault
+open_fault start top =
+    if nat_lt last_tick start then Some (Field Start) else
+    if top == 0 || nat_lt 255 top then Some (Field Top) else None
+
+-- open sets now and the top, and empties the book
+abbrev pub opened : View → (start top : ℕ) → Outcome
+opened b start top = unless (open_fault start top) b (empty_book start top)
+
+-- why a strike is refused
+abbrev pub strike_fault : View → ℕ → Option BookFault
+strike_fault b ticket = if is_open ticket b.jobs then None else Some (NotOpen ticket)
+
+-- a strike closes the open job with the ticket
+abbrev pub struck : View → ℕ → Outcome
+struck b ticket = unless (strike_fault b ticket) b (with_jobs (without ticket b.jobs) b)
+
+-- the first field of an offered job that has a value it can't have
+abbrev pub field_fault : ℕ → Job → Option BookField
+field_fault now j =
+    if j.ticket == 0 then Some Ticket else
+    if nat_lt j.arrival now then Some Arrival else
+    if nat_le j.deadline j.arrival || (nat_lt (now + 256) j.deadline || nat_lt last_tick j.deadline) then Some Deadline else
+    if j.work == 0 then Some Work else None
+
+-- why an offered job finds no place: its ticket, or all places are taken
+abbrev pub place_fault : List Job → Job → Option BookFault
+place_fault jobs j =
+    if is_open j.ticket jobs then Some (TicketOpen j.ticket) else
+    if nat_le 64 (length jobs) then Some (Full 64) else None
+
+-- why an offer is refused before it is looked at for overload
+abbrev pub early_fault : View → Job → Option BookFault
+early_fault b j = option_or (option_map Field (field_fault b.now j)) (place_fault b.jobs j)
+
+-- the first overloaded interval of a book
+abbrev pub overload_in : View → Option (ℕ × ℕ)
+overload_in b = first_overload b.top (demands b.now b.jobs) 0 horizon
+
+-- the fault of an interval that is given in ticks from now
+abbrev pub overload_fault : View → (ℕ × ℕ) → BookFault
+overload_fault b ab = Overload (b.now + ab.0) (b.now + ab.1) (work (demands b.now b.jobs) ab.0 ab.1)
+
+-- the book with the offered job counted as open
+abbrev pub counted : View → Job → View
+counted b j = with_jobs (with_job j b.jobs) b
+
+-- why an offer is refused
+abbrev pub offer_fault : View → Job → Option BookFault
+offer_fault b j = option_or (early_fault b j) (option_map (overload_fault (counted b j)) (overload_in (counted b j)))
+
+-- an offer adds the job to the open ones
+abbrev pub offered : View → Job → Outcome
+offered b j = unless (offer_fault b j) b (counted b j)

@@ -1,0 +1,9 @@
+-- jobs, what they demand, and books
+pub mod Jobs
+pub mod Demands
+pub mod Book
+-- the faults by their numbers
+pub mod Refusals
+-- what the calls answer and leave
+pub mod Calls
+pub mod Offers

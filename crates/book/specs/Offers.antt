@@ -1,0 +1,32 @@
+-- What an answer to an offer tells of the open work and the offered work.
+use Rattle.std.specs.Prelude.{◌≡◌, ℕ, ◌<◌, ◌≤◌, ◌↔◌, None, Ok, Err, Result, IsOk}
+use Rattle.schedule.specs.InForce.{horizon}
+use Rattle.schedule.specs.Sharing.{Does}
+use Rattle.book.specs.declared.job.Job.{Job}
+use Rattle.book.specs.declared.fault.BookFault.{BookFault}
+use Rattle.book.specs.declared.fault.BookFault.TheVariants.{Read, Field, TicketOpen, Full, Overload, NotOpen, Short, LastTick}
+use Rattle.book.specs.Demands.{demands}
+use Rattle.book.specs.Book.{View}
+use Rattle.book.specs.Calls.{early_fault, counted}
+
+-- some list of settings up to the top does the work of the open jobs
+abbrev pub IsDoable : View → Type 0
+IsDoable b = (s : ℕ → ℕ) × ((t : ℕ) → t < horizon → s t ≤ b.top) × Does horizon (demands b.now b.jobs) s
+
+-- whether an answer is the refusal for overload
+abbrev pub IsOverload : Result (Unit {0}) BookFault → Type 0
+IsOverload (Ok u) = ⊥
+IsOverload (Err (Read e)) = ⊥
+IsOverload (Err (Field f)) = ⊥
+IsOverload (Err (TicketOpen ticket)) = ⊥
+IsOverload (Err (Full places)) = ⊥
+IsOverload (Err (Overload start end work)) = Unit {0}
+IsOverload (Err (NotOpen ticket)) = ⊥
+IsOverload (Err (Short needed)) = ⊥
+IsOverload (Err (LastTick now)) = ⊥
+
+-- an offer that passes its other checks is accepted just where some list of settings up to the top does the open work and the offered work,
+-- and refused for overload just where none does
+pub record OnlyOverload (b : View) (j : Job) (answer : Result (Unit {0}) BookFault) : Type 0 where
+  pub accepted : IsOk answer ↔ ((early_fault b j ≡ None) × IsDoable (counted b j))
+  pub refused : IsOverload answer ↔ ((early_fault b j ≡ None) × (IsDoable (counted b j) → ⊥))

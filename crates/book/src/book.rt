@@ -1,0 +1,117 @@
+// The book and its calls.
+ghost use Rattle.std.specs.Prelude.{◌≡◌};
+
+use super::fault::{BookFault, BookField};
+use super::job::{Job, LAST_TICK};
+use super::overload::{first_overload, work_inside};
+use super::table::{PLACES, Table};
+use std::marker::Model;
+
+/// The book: now, the top and the open jobs.
+///
+/// Every book is lawful: the tickets of the open jobs differ, each has work left and a deadline in sight, and no interval is overloaded.
+#[derive(Debug, Drop)]
+pub struct Book {
+    now: u64,
+    top: u8,
+    jobs: Table,
+}
+
+impl Model for Book {
+    ghost use Rattle.book.specs.Book.{View, Lawful};
+
+    ghost Value = { View };
+
+    ghost view = { λ b. record { now = b.now; top = b.top; jobs = b.jobs } };
+
+    ghost invariant = { λ b. Lawful (record { now = b.now; top = b.top; jobs = b.jobs }) };
+}
+
+impl Book {
+    ghost use Rattle.book.specs.Book.{empty_book};
+    ghost use Rattle.book.specs.Calls.{answer_of, early_fault, opened, struck, offered};
+    ghost use Rattle.book.specs.Offers.{OnlyOverload};
+
+    /// An empty book, with now 0 and top 1.
+    pub fn new() -> Book
+        ensures { result ≡ empty_book 0 1 }
+    {
+        Book {
+            now: 0,
+            top: 1,
+            jobs: Table::new(),
+        }
+    }
+
+    /// Sets now and the top, and empties the book.
+    ///
+    /// Refuses a start after the last tick and a top that is not 1 to 255, in this order.
+    pub fn open(&mut self, start: u64, top: u16) -> Result<(), BookFault>
+        ensures answer { result ≡ (opened self.old start top).answer }
+        ensures after { self.new ≡ (opened self.old start top).book }
+    {
+        if start > LAST_TICK {
+            return Err(BookFault::Field(BookField::Start));
+        }
+        if top == 0 || top > 255 {
+            return Err(BookFault::Field(BookField::Top));
+        }
+        *self = Book {
+            now: start,
+            top: top as u8,
+            jobs: Table::new(),
+        };
+        Ok(())
+    }
+
+    /// Closes the open job with the ticket.
+    ///
+    /// Refuses a ticket that no open job has.
+    #[tactic(auto, using(crate::proofs::Striking::struck_missed, crate::proofs::Striking::struck_found))]
+    pub fn strike(&mut self, ticket: u16) -> Result<(), BookFault>
+        ensures answer { result ≡ (struck self.old ticket).answer }
+        ensures after { self.new ≡ (struck self.old ticket).book }
+    {
+        let Some(place) = self.jobs.place_of(ticket) else {
+            return Err(BookFault::NotOpen { ticket });
+        };
+        self.jobs.remove(place);
+        Ok(())
+    }
+
+    // Whether an offered job passes the checks that come before overload.
+    fn check(&self, job: &Job) -> Result<(), BookFault>
+        ensures { result ≡ answer_of (early_fault self.entry.now job.now) }
+    {
+        job.check(self.now).map_err(BookFault::Field)?;
+        if self.jobs.is_open(job.ticket) {
+            return Err(BookFault::TicketOpen { ticket: job.ticket });
+        }
+        if self.jobs.is_full() {
+            return Err(BookFault::Full { places: PLACES });
+        }
+        Ok(())
+    }
+
+    /// Adds the job to the open ones.
+    ///
+    /// Refuses, in this order: a field of the job that has a value it can't have at now; a ticket that is open; a job more than there are
+    /// places; a job with which an interval is overloaded.
+    pub fn offer(&mut self, job: Job) -> Result<(), BookFault>
+        ensures answer { result ≡ (offered self.old job).answer }
+        ensures after { self.new ≡ (offered self.old job).book }
+        ensures only_overload { OnlyOverload self.old job result }
+    {
+        self.check(&job)?;
+        let jobs = self.jobs.with_job(job);
+        if let Some((start, end)) = first_overload(jobs.jobs(), self.now, self.top) {
+            return Err(BookFault::Overload {
+                start: self.now + start,
+                end: self.now + end,
+                work: work_inside(jobs.jobs(), self.now, start, end),
+            });
+        }
+        self.jobs = jobs;
+        Ok(())
+    }
+}

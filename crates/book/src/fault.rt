@@ -1,0 +1,71 @@
+// Why the book refuses a call.
+ghost use Rattle.std.specs.Prelude.{◌≡◌};
+ghost use Rattle.book.specs.declared.fault.BookFault.TheVariants.{Read};
+ghost use Rattle.book.specs.Refusals.{book_refusal};
+
+use layout::ReadFault;
+use refusal::{Layer, Refusal, Values};
+
+/// The fields that the book checks, by their numbers.
+#[derive(Clone, Copy, PartialEq, Eq, Debug)]
+pub enum BookField {
+    Ticket = 1,
+    Arrival = 2,
+    Deadline = 3,
+    Work = 4,
+    Start = 5,
+    Top = 6,
+}
+
+/// Why the book refuses a call.
+#[derive(Clone, Copy, PartialEq, Eq, Debug)]
+pub enum BookFault {
+    /// The record that brings the call is not read.
+    Read(ReadFault),
+    /// The field has a value that it can't have.
+    Field(BookField),
+    /// A job with the ticket is open.
+    TicketOpen { ticket: u16 },
+    /// Every place is taken; so many there are.
+    Full { places: usize },
+    /// The interval from start to end is overloaded by the work inside, the offered job counted as open.
+    Overload { start: u64, end: u64, work: u32 },
+    /// No open job has the ticket.
+    NotOpen { ticket: u16 },
+    /// The list has fewer places than are needed.
+    Short { needed: usize },
+    /// Now is the last tick of all.
+    LastTick { now: u64 },
+}
+
+impl From<ReadFault> for BookFault {
+    ghost from_gives = { λ e r. r ≡ Read e };
+
+    fn from(e: ReadFault) -> BookFault {
+        BookFault::Read(e)
+    }
+}
+
+impl From<BookFault> for Refusal {
+    ghost from_gives = { λ fault refusal. refusal ≡ book_refusal fault };
+
+    fn from(fault: BookFault) -> Refusal {
+        let (number, value) = match fault {
+            BookFault::Read(fault) => return fault.into(),
+            BookFault::Overload { start, end, work } => {
+                return Refusal {
+                    layer: Layer::Book,
+                    number: 8,
+                    values: Values::Three(start, end, u64::from(work)),
+                };
+            }
+            BookFault::Field(field) => (5, field as u64),
+            BookFault::TicketOpen { ticket } => (6, u64::from(ticket)),
+            BookFault::Full { places } => (7, places as u64),
+            BookFault::NotOpen { ticket } => (9, u64::from(ticket)),
+            BookFault::Short { needed } => (10, needed as u64),
+            BookFault::LastTick { now } => (11, now),
+        };
+        Refusal::with_value(Layer::Book, number, value)
+    }
+}
