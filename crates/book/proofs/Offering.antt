@@ -1,8 +1,8 @@
 -- What an offer answers and leaves.
-use Rattle.std.proofs.Common.{◌≡◌, ◌≢◌, ℕ, ◌+◌, ◌<◌, ◌≤◌, true, false, not, inl, inr, List, length, get_or, Option, Some, None, Ok, Err, refl, sym, arith, rules, subst}
+use Rattle.std.proofs.Common.{◌≡◌, ◌≢◌, ℕ, ◌<◌, ◌≤◌, true, false, not, nat_le, inl, inr, List, length, get_or, Option, Some, None, Ok, Err, Result, refl, sym, arith, subst}
 use Rattle.std.specs.List.{All, AllPairs, position_or_len}
 use Rattle.std.specs.Option.{option_map, option_or}
-use Rattle.std.proofs.lemmas.Bool.{cases_eq, both_ways}
+use Rattle.std.proofs.lemmas.Bool.{cases_Bool, cases_eq, both_ways}
 use Rattle.std.proofs.lemmas.Bool.Decides.{nat_tests}
 use Rattle.std.proofs.lemmas.List.Edits.{length-insert}
 use Rattle.std.proofs.lemmas.List.Folds.{list_any_at}
@@ -13,11 +13,12 @@ use Rattle.schedule.specs.Overload.{Searched}
 use Rattle.schedule.proofs.Theory.{theory}
 use Rattle.book.specs.declared.job.Job.{Job}
 use Rattle.book.specs.declared.fault.BookFault.{BookFault}
-use Rattle.book.specs.declared.fault.BookFault.TheVariants.{Field, Overload}
+use Rattle.book.specs.declared.fault.BookFault.TheVariants.{Field, TicketOpen, Full}
+use Rattle.book.specs.declared.fault.BookField.{BookField}
 use Rattle.book.specs.Jobs.{is_before, has_ticket, is_open, with_job}
 use Rattle.book.specs.Demands.{demands}
 use Rattle.book.specs.Book.{View, OpenAt, InOrder, Lawful}
-use Rattle.book.specs.Calls.{answer_of, field_fault, place_fault, early_fault, overload_in, counted}
+use Rattle.book.specs.Calls.{answer_of, field_fault, place_fault, early_fault, overload_in, overload_at, counted, unless, offered}
 use Rattle.book.specs.Offers.{IsDoable, IsOverload, OnlyOverload}
 use Rattle.book.proofs.DemandFacts.{sound-demands}
 use Rattle.book.proofs.Jobs.{All-insert, AllPairs-insert}
@@ -113,13 +114,6 @@ module _ (b : View) (j : Job) (lawful : Lawful b) (ok : Passed b j) where
     none_overloaded = subst (Searched horizon (demands b.now (with_job j b.jobs)) b.top) none counted_searched;
   }
 
-  -- an interval that is found lies in sight
-  pub counted_in_sight : (x y : ℕ) → overload_in (counted b j) ≡ Some (x, y) → (x < y) × (y ≤ 256)
-  counted_in_sight x y some =
-      let found = subst (Searched horizon (demands b.now (with_job j b.jobs)) b.top) some counted_searched in
-      let ticks = theory.ticks in
-      (found.0.proper, omega (arith, found.0.in_sight))
-
   -- the search finds none just where the work can be done
   pub counted_doable : overload_in (counted b j) ≡ None → IsDoable (counted b j)
   counted_doable none = (theory.enough.up_to_top horizon (demands b.now (with_job j b.jobs)) b.top counted_sound).0 (counted_lawful none).none_overloaded
@@ -129,18 +123,52 @@ module _ (b : View) (j : Job) (lawful : Lawful b) (ok : Passed b j) where
       let found = subst (Searched horizon (demands b.now (with_job j b.jobs)) b.top) some counted_searched in
       found.1 ((theory.enough.up_to_top horizon (demands b.now (with_job j b.jobs)) b.top counted_sound).1 can)
 
--- what an answer tells of the work that can be done
-module _ (b : View) (j : Job) (lawful : Lawful b) where
-  pub accepted_only : early_fault b j ≡ None → overload_in (counted b j) ≡ None → OnlyOverload b j (Ok tt)
-  accepted_only early none =
-      let can = counted_doable b j lawful (passed b j early) none in
-      record { accepted = (λ _. (early, can), λ _. search rules); refused = (λ no. absurd no, λ cannot. absurd (cannot.1 can)) }
+-- a fault of the first checks is no overload
+other_fault : (o : Option BookFault) (f g : BookFault) → o ≡ Some g → (IsOverload (Err g) → ⊥) → o ≡ Some f → IsOverload (Err f) → ⊥
+other_fault o f g is other e = let same : g ≡ f = cc in subst (λ x. IsOverload (Err x) → ⊥) same other
 
-  pub refused_only : (x y w : ℕ) → early_fault b j ≡ None → overload_in (counted b j) ≡ Some (x, y) → OnlyOverload b j (Err (Overload (b.now + x) (b.now + y) w))
-  refused_only x y w early some =
-      let cannot = counted_not_doable b j lawful (passed b j early) x y some in
-      record { accepted = (λ no. absurd (search rules), λ can. absurd (cannot can.1)); refused = (λ _. (early, cannot), λ _. tt) }
+place_other : (jobs : List Job) (j : Job) (f : BookFault) → place_fault jobs j ≡ Some f → IsOverload (Err f) → ⊥
+place_other jobs j f e = elim (cases_Bool (is_open j.ticket jobs)) [
+  | inl held ↦ other_fault (place_fault jobs j) f (TicketOpen j.ticket) (rw held refl) (λ no. no) e
+  | inr closed ↦ elim (cases_Bool (nat_le 64 (length jobs))) [
+    | inl full ↦ other_fault (place_fault jobs j) f (Full 64) (rw (closed, full) refl) (λ no. no) e
+    | inr room ↦ absurd (let none : place_fault jobs j ≡ None = rw (closed, room) refl in cc)
+  ]
+]
 
-  pub early_only : (fault : BookFault) → early_fault b j ≡ Some fault → (IsOverload (Err fault) → ⊥) → OnlyOverload b j (Err fault)
-  early_only fault early other =
-      record { accepted = (λ no. absurd (search rules), λ can. absurd (cc)); refused = (λ is. absurd (other is), λ cannot. absurd (cc)) }
+early_other : (b : View) (j : Job) (f : BookFault) → early_fault b j ≡ Some f → IsOverload (Err f) → ⊥
+early_other b j f = go (field_fault b.now j)
+  where
+    go : (o : Option BookField) → option_or (option_map Field o) (place_fault b.jobs j) ≡ Some f → IsOverload (Err f) → ⊥
+    go None e = place_other b.jobs j f e
+    go (Some field) e = other_fault (Some (Field field)) f (Field field) refl (λ no. no) e
+
+-- an offer leaves a lawful book
+pub lawful-offered : (b : View) (j : Job) → Lawful b → Lawful (offered b j).book
+lawful-offered b j lawful = go (early_fault b j) refl (overload_in (counted b j)) refl
+  where
+    go : (o : Option BookFault) → early_fault b j ≡ o → (r : Option (ℕ × ℕ)) → overload_in (counted b j) ≡ r
+        → Lawful (unless (option_or o (option_map (overload_at (counted b j)) r)) b (counted b j)).book
+    go (Some f) e r s = lawful
+    go None e (Some xy) s = lawful
+    go None e None s = counted_lawful b j lawful (passed b j e) s
+
+-- and its answer tells what work can be done
+only_offered : (b : View) (j : Job) → Lawful b → OnlyOverload b j (offered b j).answer
+only_offered b j lawful = go (early_fault b j) refl (overload_in (counted b j)) refl
+  where
+    go : (o : Option BookFault) → early_fault b j ≡ o → (r : Option (ℕ × ℕ)) → overload_in (counted b j) ≡ r
+        → OnlyOverload b j (unless (option_or o (option_map (overload_at (counted b j)) r)) b (counted b j)).answer
+    go (Some f) e r s = record {
+      accepted = (λ no. absurd (cc), λ can. absurd (cc));
+      refused = (λ is. absurd (early_other b j f e is), λ cannot. absurd (cc));
+    }
+    go None e (Some xy) s =
+        let cannot = counted_not_doable b j lawful (passed b j e) xy.0 xy.1 s in
+        record { accepted = (λ no. absurd (cc), λ can. absurd (cannot can.1)); refused = (λ _. (e, cannot), λ _. tt) }
+    go None e None s =
+        let can = counted_doable b j lawful (passed b j e) s in
+        record { accepted = (λ _. (e, can), λ _. refl); refused = (λ no. absurd no, λ cannot. absurd (cannot.1 can)) }
+
+pub only_overload : (b : View) (j : Job) (answer : Result (Unit {0}) BookFault) → Lawful b → answer ≡ (offered b j).answer → OnlyOverload b j answer
+only_overload b j answer lawful e = subst (OnlyOverload b j) (sym e) (only_offered b j lawful)

@@ -64,13 +64,16 @@ place_fault jobs j =
 abbrev pub early_fault : View → Job → Option BookFault
 early_fault b j = option_or (option_map Field (field_fault b.now j)) (place_fault b.jobs j)
 
--- the first overloaded interval of a book
+-- the first overloaded interval of a book, in ticks from now
 abbrev pub overload_in : View → Option (ℕ × ℕ)
 overload_in b = first_overload b.top (demands b.now b.jobs) 0 horizon
 
--- the fault of an interval that is given in ticks from now
-abbrev pub overload_fault : View → (ℕ × ℕ) → BookFault
-overload_fault b ab = Overload (b.now + ab.0) (b.now + ab.1) (work (demands b.now b.jobs) ab.0 ab.1)
+-- its fault names its ticks and the work inside
+abbrev pub overload_at : View → (ℕ × ℕ) → BookFault
+overload_at b ab = Overload (b.now + ab.0) (b.now + ab.1) (work (demands b.now b.jobs) ab.0 ab.1)
+
+abbrev pub overload_fault : View → Option BookFault
+overload_fault b = option_map (overload_at b) (overload_in b)
 
 -- the book with the offered job counted as open
 abbrev pub counted : View → Job → View
@@ -78,7 +81,7 @@ counted b j = with_jobs (with_job j b.jobs) b
 
 -- why an offer is refused
 abbrev pub offer_fault : View → Job → Option BookFault
-offer_fault b j = option_or (early_fault b j) (option_map (overload_fault (counted b j)) (overload_in (counted b j)))
+offer_fault b j = option_or (early_fault b j) (overload_fault (counted b j))
 
 -- an offer adds the job to the open ones
 abbrev pub offered : View → Job → Outcome

@@ -3,7 +3,7 @@ ghost use Rattle.std.specs.Prelude.{◌≡◌};
 
 use super::fault::{BookFault, BookField};
 use super::job::{Job, LAST_TICK};
-use super::overload::{first_overload, work_inside};
+use super::overload::overload_fault;
 use super::table::{PLACES, Table};
 use std::marker::Model;
 
@@ -12,7 +12,8 @@ use std::marker::Model;
 /// Every book is lawful: the tickets of the open jobs differ, each has work left and a deadline in sight, and no interval is overloaded.
 #[derive(Debug, Drop)]
 pub struct Book {
-    now: u64,
+    // Now. A field of that name would hide what a clause calls `self.now`.
+    tick: u64,
     top: u8,
     jobs: Table,
 }
@@ -22,13 +23,13 @@ impl Model for Book {
 
     ghost Value = { View };
 
-    ghost view = { λ b. record { now = b.now; top = b.top; jobs = b.jobs } };
+    ghost view = { λ b. record { now = b.tick; top = b.top; jobs = b.jobs } };
 
-    ghost invariant = { λ b. Lawful (record { now = b.now; top = b.top; jobs = b.jobs }) };
+    ghost invariant = { λ b. Lawful (record { now = b.tick; top = b.top; jobs = b.jobs }) };
 }
 
 impl Book {
-    ghost use Rattle.book.specs.Book.{empty_book};
+    ghost use Rattle.book.specs.Book.{Lawful, empty_book};
     ghost use Rattle.book.specs.Calls.{answer_of, early_fault, opened, struck, offered};
     ghost use Rattle.book.specs.Offers.{OnlyOverload};
 
@@ -37,10 +38,32 @@ impl Book {
         ensures { result ≡ empty_book 0 1 }
     {
         Book {
-            now: 0,
+            tick: 0,
             top: 1,
             jobs: Table::new(),
         }
+    }
+
+    /// The current tick.
+    pub fn now(&self) -> u64
+        ensures { result ≡ self.now.now }
+    {
+        self.tick
+    }
+
+    /// The greatest setting.
+    pub fn top(&self) -> u8
+        ensures { result ≡ self.now.top }
+    {
+        self.top
+    }
+
+    /// The open jobs, with their work left, by deadline, then ticket.
+    pub fn jobs(&self) -> &[Job]
+        ensures jobs { result.now ≡ self.now.jobs }
+        ensures lawful { Lawful self.now }
+    {
+        self.jobs.jobs()
     }
 
     /// Sets now and the top, and empties the book.
@@ -56,11 +79,9 @@ impl Book {
         if top == 0 || top > 255 {
             return Err(BookFault::Field(BookField::Top));
         }
-        *self = Book {
-            now: start,
-            top: top as u8,
-            jobs: Table::new(),
-        };
+        self.tick = start;
+        self.top = top as u8;
+        self.jobs = Table::new();
         Ok(())
     }
 
@@ -81,9 +102,9 @@ impl Book {
 
     // Whether an offered job passes the checks that come before overload.
     fn check(&self, job: &Job) -> Result<(), BookFault>
-        ensures { result ≡ answer_of (early_fault self.entry.now job.now) }
+        ensures { result ≡ answer_of (early_fault self.now job.now) }
     {
-        job.check(self.now).map_err(BookFault::Field)?;
+        job.check(self.tick).map_err(BookFault::Field)?;
         if self.jobs.is_open(job.ticket) {
             return Err(BookFault::TicketOpen { ticket: job.ticket });
         }
@@ -104,12 +125,8 @@ impl Book {
     {
         self.check(&job)?;
         let jobs = self.jobs.with_job(job);
-        if let Some((start, end)) = first_overload(jobs.jobs(), self.now, self.top) {
-            return Err(BookFault::Overload {
-                start: self.now + start,
-                end: self.now + end,
-                work: work_inside(jobs.jobs(), self.now, start, end),
-            });
+        if let Some(fault) = overload_fault(jobs.jobs(), self.tick, self.top) {
+            return Err(fault);
         }
         self.jobs = jobs;
         Ok(())

@@ -27,9 +27,9 @@ pub(super) struct Table {
 
 impl Model for Table {
     ghost use Rattle.std.specs.Prelude.{◌≤◌, List, take};
-    ghost use Rattle.book.specs.declared.job.Job.{Job as AJob};
+    ghost use Rattle.book.specs.declared.job.Job.{Job};
 
-    ghost Value = { List AJob };
+    ghost Value = { List Job };
 
     ghost view = { λ t. take t.count t.places };
 
