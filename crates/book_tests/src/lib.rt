@@ -1,0 +1,14 @@
+//! Tests of the book: each refusal at its edges, the order of the open jobs, overloads against a search of another kind, and what is
+//! told of its faults.
+#![tactic(auto)]
+
+#[cfg(test)]
+mod fields;
+#[cfg(test)]
+mod overload;
+#[cfg(test)]
+mod places;
+#[cfg(test)]
+mod samples;
+#[cfg(test)]
+mod telling;

@@ -1,0 +1,29 @@
+// Jobs and books that several tests use.
+use book::{Book, Job};
+use std::process::Abort;
+
+// The last tick of all.
+pub(super) const LAST_TICK: u64 = 281_474_976_710_655;
+
+pub(super) fn job(ticket: u16, arrival: u64, deadline: u64, work: u16) -> Job {
+    Job {
+        ticket,
+        arrival,
+        deadline,
+        work,
+    }
+}
+
+// An empty book at now with the top.
+pub(super) fn book_at(rt: &impl Abort, now: u64, top: u16) -> Book {
+    let mut book = Book::new();
+    assert_eq!(rt; book.open(now, top), Ok(()));
+    book
+}
+
+// An offer that is refused leaves the open jobs, now and the top.
+pub(super) fn check_left(rt: &impl Abort, book: &Book, now: u64, top: u8, jobs: &[Job]) {
+    assert_eq!(rt; book.now(), now);
+    assert_eq!(rt; book.top(), top);
+    assert_eq!(rt; book.jobs(), jobs);
+}
