@@ -31,7 +31,7 @@ pub sound-demands : (n now : ℕ) (js : List Job) → n ≡ 256 → All (OpenAt 
 sound-demands n now [] ticks all = tt
 sound-demands n now (j ∷ js) ticks all =
     let here = All-head (OpenAt now) j js all in
-    ((λ _. (omega (arith, here.not_due, here.window), omega (arith, here.in_sight))), sound-demands n now js ticks (All-tail (OpenAt now) j js all))
+    ((λ _. (omega (arith, here.not_due, here.some_window), omega (arith, here.in_sight))), sound-demands n now js ticks (All-tail (OpenAt now) j js all))
 
 -- the work of a job whose window does not start before a
 abbrev pub work_from : ℕ → ℕ → Job → ℕ

@@ -19,8 +19,8 @@ work-filter p now a b (j ∷ js) = let rest = work-filter p now a b js in grind 
 pub lawful-without : (t : ℕ) (b : View) → Lawful b → Lawful (with_jobs (without t b.jobs) b)
 lawful-without t b h = record {
   in_time = h.in_time;
-  top_above_none = h.top_above_none;
-  top_fits = h.top_fits;
+  top_positive = h.top_positive;
+  top_within = h.top_within;
   few = omega (arith, h.few, length-filter (λ j. not (has_ticket t j)) b.jobs, count_by-le-length (λ j. not (has_ticket t j)) b.jobs);
   tickets_differ = AllPairs-filter (λ j k. j.ticket ≢ k.ticket) (λ j. not (has_ticket t j)) b.jobs h.tickets_differ;
   in_order = AllPairs-filter (λ j k. is_before j k ≡ true) (λ j. not (has_ticket t j)) b.jobs h.in_order;

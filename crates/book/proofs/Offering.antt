@@ -18,7 +18,7 @@ use Rattle.book.specs.declared.fault.BookField.{BookField}
 use Rattle.book.specs.Jobs.{is_before, has_ticket, is_open, with_job}
 use Rattle.book.specs.Demands.{demands}
 use Rattle.book.specs.Book.{View, OpenAt, InOrder, Lawful}
-use Rattle.book.specs.Calls.{answer_of, field_fault, place_fault, early_fault, overload_in, overload_at, counted, unless, offered}
+use Rattle.book.specs.Calls.{answer_of, field_fault, place_fault, early_fault, overload_in, overload_at, counted, outcome, offered}
 use Rattle.book.specs.Offers.{IsDoable, IsOverload, OnlyOverload}
 use Rattle.book.proofs.DemandFacts.{sound-demands}
 use Rattle.book.proofs.Jobs.{All-insert, AllPairs-insert}
@@ -56,8 +56,8 @@ tickets_differ-with_job j js closed differ =
     (λ k d lt. others j.ticket js closed k d (omega arith))
     (λ k d from lt e. others j.ticket js closed k d lt (sym e))
 
--- what an offer has that passes its first checks
-pub record Passed (b : View) (j : Job) : Type 0 where
+-- an offer that passes the checks before overload
+pub record Admissible (b : View) (j : Job) : Type 0 where
   pub is_open_at : OpenAt b.now j
   pub closed : is_open j.ticket b.jobs ≡ false
   pub room : length b.jobs < 64
@@ -68,17 +68,17 @@ both_none f (Some x) p e = absurd (cc)
 
 open_fields : (now : ℕ) (j : Job) → field_fault now j ≡ None → OpenAt now j
 open_fields now j e = record {
-  ticket = grind (arith, nat_tests);
+  some_ticket = grind (arith, nat_tests);
   work_left = grind (arith, nat_tests);
   not_due = grind (arith, nat_tests);
   in_sight = grind (arith, nat_tests);
   in_time = grind (arith, nat_tests);
-  window = grind (arith, nat_tests);
+  some_window = grind (arith, nat_tests);
   short_window = grind (arith, nat_tests);
 }
 
-pub passed : (b : View) (j : Job) → early_fault b j ≡ None → Passed b j
-passed b j e =
+pub admissible : (b : View) (j : Job) → early_fault b j ≡ None → Admissible b j
+admissible b j e =
     let none = both_none Field (field_fault b.now j) (place_fault b.jobs j) e in
     let fields = none.0 in
     let places = none.1 in
@@ -89,7 +89,7 @@ no_fault None e = refl
 no_fault (Some x) e = absurd (cc)
 
 -- the offered job counted, in a lawful book
-module _ (b : View) (j : Job) (lawful : Lawful b) (ok : Passed b j) where
+module _ (b : View) (j : Job) (lawful : Lawful b) (ok : Admissible b j) where
   pub counted_order : InOrder (with_job j b.jobs)
   counted_order = in_order-with_job j b.jobs ok.closed lawful.in_order
 
@@ -105,8 +105,8 @@ module _ (b : View) (j : Job) (lawful : Lawful b) (ok : Passed b j) where
   pub counted_lawful : overload_in (counted b j) ≡ None → Lawful (counted b j)
   counted_lawful none = record {
     in_time = lawful.in_time;
-    top_above_none = lawful.top_above_none;
-    top_fits = lawful.top_fits;
+    top_positive = lawful.top_positive;
+    top_within = lawful.top_within;
     few = omega (arith, length-insert b.jobs (position_or_len (is_before j) b.jobs) j (prefix_len-le-length (λ k. not (is_before j k)) b.jobs), ok.room);
     tickets_differ = tickets_differ-with_job j b.jobs ok.closed lawful.tickets_differ;
     in_order = counted_order;
@@ -148,26 +148,26 @@ pub lawful-offered : (b : View) (j : Job) → Lawful b → Lawful (offered b j).
 lawful-offered b j lawful = go (early_fault b j) refl (overload_in (counted b j)) refl
   where
     go : (o : Option BookFault) → early_fault b j ≡ o → (r : Option (ℕ × ℕ)) → overload_in (counted b j) ≡ r
-        → Lawful (unless (option_or o (option_map (overload_at (counted b j)) r)) b (counted b j)).book
+        → Lawful (outcome (option_or o (option_map (overload_at (counted b j)) r)) b (counted b j)).book
     go (Some f) e r s = lawful
     go None e (Some xy) s = lawful
-    go None e None s = counted_lawful b j lawful (passed b j e) s
+    go None e None s = counted_lawful b j lawful (admissible b j e) s
 
 -- and its answer tells what work can be done
 only_offered : (b : View) (j : Job) → Lawful b → OnlyOverload b j (offered b j).answer
 only_offered b j lawful = go (early_fault b j) refl (overload_in (counted b j)) refl
   where
     go : (o : Option BookFault) → early_fault b j ≡ o → (r : Option (ℕ × ℕ)) → overload_in (counted b j) ≡ r
-        → OnlyOverload b j (unless (option_or o (option_map (overload_at (counted b j)) r)) b (counted b j)).answer
+        → OnlyOverload b j (outcome (option_or o (option_map (overload_at (counted b j)) r)) b (counted b j)).answer
     go (Some f) e r s = record {
       accepted = (λ no. absurd (cc), λ can. absurd (cc));
       refused = (λ is. absurd (early_other b j f e is), λ cannot. absurd (cc));
     }
     go None e (Some xy) s =
-        let cannot = counted_not_doable b j lawful (passed b j e) xy.0 xy.1 s in
+        let cannot = counted_not_doable b j lawful (admissible b j e) xy.0 xy.1 s in
         record { accepted = (λ no. absurd (cc), λ can. absurd (cannot can.1)); refused = (λ _. (e, cannot), λ _. tt) }
     go None e None s =
-        let can = counted_doable b j lawful (passed b j e) s in
+        let can = counted_doable b j lawful (admissible b j e) s in
         record { accepted = (λ _. (e, can), λ _. refl); refused = (λ no. absurd no, λ cannot. absurd (cannot.1 can)) }
 
 pub only_overload : (b : View) (j : Job) (answer : Result (Unit {0}) BookFault) → Lawful b → answer ≡ (offered b j).answer → OnlyOverload b j answer

@@ -19,12 +19,12 @@ last_tick = 281474976710655
 
 -- a job as it can be open at now
 pub record OpenAt (now : ℕ) (j : Job) : Type 0 where
-  pub ticket : 0 < j.ticket
+  pub some_ticket : 0 < j.ticket
   pub work_left : 0 < j.work
   pub not_due : now < j.deadline
   pub in_sight : j.deadline ≤ now + 256
   pub in_time : j.deadline ≤ last_tick
-  pub window : j.arrival < j.deadline
+  pub some_window : j.arrival < j.deadline
   pub short_window : j.deadline ≤ j.arrival + 256
 
 -- jobs in the order of serving
@@ -34,8 +34,8 @@ InOrder jobs = AllPairs (λ j k. is_before j k ≡ true) jobs
 -- a lawful book
 pub record Lawful (b : View) : Type 0 where
   pub in_time : b.now ≤ last_tick
-  pub top_above_none : 1 ≤ b.top
-  pub top_fits : b.top ≤ 255
+  pub top_positive : 1 ≤ b.top
+  pub top_within : b.top ≤ 255
   pub few : length b.jobs ≤ 64
   pub tickets_differ : AllPairs (λ j k. j.ticket ≢ k.ticket) b.jobs
   pub in_order : InOrder b.jobs

@@ -23,10 +23,10 @@ abbrev pub answer_of : {F : Type 0} → Option F → Result (Unit {0}) F
 answer_of None = Ok tt
 answer_of (Some fault) = Err fault
 
--- what a refused call leaves is the book as it was
-abbrev pub unless : Option BookFault → (before after : View) → Outcome
-unless None before after = record { answer = Ok tt; book = after }
-unless (Some fault) before after = record { answer = Err fault; book = before }
+-- the outcome of a call: where it is refused, the book is as it was before
+abbrev pub outcome : Option BookFault → (before after : View) → Outcome
+outcome None before after = record { answer = Ok tt; book = after }
+outcome (Some fault) before after = record { answer = Err fault; book = before }
 
 -- why a book is not opened
 abbrev pub open_fault : (start top : ℕ) → Option BookFault
@@ -36,7 +36,7 @@ open_fault start top =
 
 -- open sets now and the top, and empties the book
 abbrev pub opened : View → (start top : ℕ) → Outcome
-opened b start top = unless (open_fault start top) b (empty_book start top)
+opened b start top = outcome (open_fault start top) b (empty_book start top)
 
 -- why a strike is refused
 abbrev pub strike_fault : View → ℕ → Option BookFault
@@ -44,7 +44,7 @@ strike_fault b ticket = if is_open ticket b.jobs then None else Some (NotOpen ti
 
 -- a strike closes the open job with the ticket
 abbrev pub struck : View → ℕ → Outcome
-struck b ticket = unless (strike_fault b ticket) b (with_jobs (without ticket b.jobs) b)
+struck b ticket = outcome (strike_fault b ticket) b (with_jobs (without ticket b.jobs) b)
 
 -- the first field of an offered job that has a value it can't have
 abbrev pub field_fault : ℕ → Job → Option BookField
@@ -68,10 +68,11 @@ early_fault b j = option_or (option_map Field (field_fault b.now j)) (place_faul
 abbrev pub overload_in : View → Option (ℕ × ℕ)
 overload_in b = first_overload b.top (demands b.now b.jobs) 0 horizon
 
--- its fault names its ticks and the work inside
+-- the fault of an interval names its ticks and the work inside
 abbrev pub overload_at : View → (ℕ × ℕ) → BookFault
 overload_at b ab = Overload (b.now + ab.0) (b.now + ab.1) (work (demands b.now b.jobs) ab.0 ab.1)
 
+-- why a book is not lawful: it has an overloaded interval
 abbrev pub overload_fault : View → Option BookFault
 overload_fault b = option_map (overload_at b) (overload_in b)
 
@@ -85,4 +86,4 @@ offer_fault b j = option_or (early_fault b j) (overload_fault (counted b j))
 
 -- an offer adds the job to the open ones
 abbrev pub offered : View → Job → Outcome
-offered b j = unless (offer_fault b j) b (counted b j)
+offered b j = outcome (offer_fault b j) b (counted b j)

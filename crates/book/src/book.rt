@@ -68,7 +68,7 @@ impl Book {
 
     /// Sets now and the top, and empties the book.
     ///
-    /// Refuses a start after the last tick and a top that is not 1 to 255, in this order.
+    /// Refuses a start after the last tick, then a top that is not 1 to 255 ([`BookFault::Field`]).
     pub fn open(&mut self, start: u64, top: u16) -> Result<(), BookFault>
         ensures answer { result ≡ (opened self.old start top).answer }
         ensures after { self.new ≡ (opened self.old start top).book }
@@ -87,7 +87,7 @@ impl Book {
 
     /// Closes the open job with the ticket.
     ///
-    /// Refuses a ticket that no open job has.
+    /// Refuses a ticket that no open job has ([`BookFault::NotOpen`]).
     #[tactic(auto, using(crate::proofs::Striking::struck_missed, crate::proofs::Striking::struck_found))]
     pub fn strike(&mut self, ticket: u16) -> Result<(), BookFault>
         ensures answer { result ≡ (struck self.old ticket).answer }
@@ -116,8 +116,13 @@ impl Book {
 
     /// Adds the job to the open ones.
     ///
-    /// Refuses, in this order: a field of the job that has a value it can't have at now; a ticket that is open; a job more than there are
-    /// places; a job with which an interval is overloaded.
+    /// Refuses, in this order:
+    ///
+    /// - ticket 0; an arrival before now; a deadline that is not after the arrival, more than 256 ticks from now or after the last
+    ///   tick; work 0 ([`BookFault::Field`]);
+    /// - a ticket that is open ([`BookFault::TicketOpen`]);
+    /// - a 65th job ([`BookFault::Full`]);
+    /// - a job with which an interval is overloaded ([`BookFault::Overload`]), so that no settings up to the top could do all work.
     pub fn offer(&mut self, job: Job) -> Result<(), BookFault>
         ensures answer { result ≡ (offered self.old job).answer }
         ensures after { self.new ≡ (offered self.old job).book }

@@ -4,8 +4,8 @@
 //! let mut book = Book::new();
 //! book.open(0, 4)?;
 //! book.offer(Job { ticket: 7, arrival: 0, deadline: 2, work: 3 })?;
-//! // Err(BookFault::Overload { start: 1, end: 2, work: 6 }) where another job of 3 units has to be done in the same tick
-//! book.offer(job)?;
+//! // Err(BookFault::Overload { start: 0, end: 2, work: 9 })
+//! let answer = book.offer(Job { ticket: 9, arrival: 0, deadline: 2, work: 6 });
 //! book.strike(7)?;
 //! ```
 //!

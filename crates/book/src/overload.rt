@@ -40,7 +40,7 @@ pub(super) fn overload_fault(jobs: &[Job], now: u64, top: u8) -> Option<BookFaul
             if !starts_at(jobs, now, start) {
                 continue;
             }
-            // By deadline, so this is the work inside the interval to the job's end. Jobs that end with it may add more.
+            // By deadline: what is added up lies inside the interval to the job's end. Jobs with the same end may follow.
             let mut work = 0;
             for job in jobs {
                 if job.start(now) < start {

@@ -18,6 +18,7 @@ const NO_JOB: Job = Job {
 };
 
 // The open jobs in the order of serving.
+// No comparison is derived: what stands in the other places plays no part.
 #[derive(Debug, Drop)]
 pub(super) struct Table {
     places: [Job; PLACES],

@@ -1,20 +1,20 @@
 use Rattle.std.proofs.Common.{◌≡◌, None, Ok, Err, sym, subst, rules}
 use Rattle.book.specs.Book.{View, Lawful}
 use Rattle.book.specs.Calls.{early_fault, offered}
-use Rattle.book.proofs.Offering.{passed, no_fault, counted_order, counted_open, lawful-offered, only_overload}
+use Rattle.book.proofs.Offering.{admissible, no_fault, counted_order, counted_open, lawful-offered, only_overload}
 use Rattle.book.proofs.book.Book.offer.Goals as goal
 
 pub overload_fault-requires-clause-in_order : goal.overload_fault-requires-clause-in_order
 overload_fault-requires-clause-in_order c =
     let b : View = record { now = c.self.inside.tick; top = c.self.inside.top; jobs = c.self.inside.jobs } in
     let early : early_fault b c.args.job ≡ None = subst (λ v. early_fault v c.args.job ≡ None) (sym c.self.view_is) (no_fault _ (sym c.in_ok-check.ensures)) in
-    rw (c.jobs.ensures.jobs, c.with_job-jobs.ensures) (counted_order b c.args.job c.self.invariant (passed b c.args.job early))
+    rw (c.jobs.ensures.jobs, c.with_job-jobs.ensures) (counted_order b c.args.job c.self.invariant (admissible b c.args.job early))
 
 pub overload_fault-requires-clause-open : goal.overload_fault-requires-clause-open
 overload_fault-requires-clause-open c =
     let b : View = record { now = c.self.inside.tick; top = c.self.inside.top; jobs = c.self.inside.jobs } in
     let early : early_fault b c.args.job ≡ None = subst (λ v. early_fault v c.args.job ≡ None) (sym c.self.view_is) (no_fault _ (sym c.in_ok-check.ensures)) in
-    rw (c.jobs.ensures.jobs, c.with_job-jobs.ensures) (counted_open b c.args.job c.self.invariant (passed b c.args.job early))
+    rw (c.jobs.ensures.jobs, c.with_job-jobs.ensures) (counted_open b c.args.job c.self.invariant (admissible b c.args.job early))
 
 pub returns-in-Some-clause-only_overload : goal.returns-in-Some-clause-only_overload
 returns-in-Some-clause-only_overload c = only_overload c.args.self.now c.args.job (Err c.in-Some.fault) (subst Lawful c.self.view_is c.self.invariant) (search rules)
