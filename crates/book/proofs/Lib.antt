@@ -9,3 +9,5 @@ pub mod Jobs
 pub mod Keeping
 pub mod Striking
 pub mod Offering
+-- the settings in force
+pub mod Planning

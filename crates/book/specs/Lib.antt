@@ -7,3 +7,4 @@ pub mod Refusals
 -- what the calls answer and leave
 pub mod Calls
 pub mod Offers
+pub mod Settings

@@ -13,9 +13,9 @@ use std::marker::Model;
 #[derive(Debug, Drop)]
 pub struct Book {
     // Now. A field of that name would hide what a clause calls `self.now`.
-    tick: u64,
-    top: u8,
-    jobs: Table,
+    pub(super) tick: u64,
+    pub(super) top: u8,
+    pub(super) jobs: Table,
 }
 
 impl Model for Book {

@@ -16,6 +16,7 @@ mod book;
 mod fault;
 mod job;
 mod overload;
+mod settings;
 mod table;
 
 pub use book::Book;

@@ -1,0 +1,76 @@
+// The settings in force of a book.
+ghost use Rattle.std.specs.Prelude.{◌≡◌, ◌≤◌, length, All, OnOk};
+ghost use Rattle.schedule.specs.Certificate.{listed};
+ghost use Rattle.schedule.specs.InForce.{horizon, InForce, Same, settings_in_force};
+ghost use Rattle.book.specs.Demands.{demands};
+ghost use Rattle.book.specs.Book.{OpenAt, InOrder};
+
+use super::book::Book;
+use super::fault::BookFault;
+use super::job::Job;
+use super::table::PLACES;
+use planner::{Demand, Demands};
+
+// How many settings there are: one for each tick from now on.
+const SETTINGS: usize = 256;
+
+// What stands in a place that no demand takes.
+const NO_DEMAND: Demand = Demand {
+    from: 0,
+    to: 0,
+    units: 0,
+};
+
+impl Job {
+    ghost use Rattle.book.specs.Demands.{demand};
+
+    // What the job demands, seen from now.
+    fn demand(&self, now: u64) -> Demand
+        requires { OpenAt now self.now }
+        ensures { result ≡ demand now self.now }
+    {
+        Demand {
+            from: self.start(now) as u16,
+            to: self.end(now) as u16,
+            units: self.work,
+        }
+    }
+}
+
+// The settings in force for open jobs.
+pub(super) fn settings_in_force(jobs: &[Job], now: u64) -> [u32; 256]
+    requires few { length jobs.now ≤ 64 }
+    requires in_order { InOrder jobs.now }
+    requires open { All (OpenAt now) jobs.now }
+    ensures settings { Same horizon (listed result) (settings_in_force (demands now jobs.now)) }
+    ensures in_force { InForce horizon (demands now jobs.now) (listed result) }
+{
+    let mut demands = [NO_DEMAND; PLACES];
+    for (place, job) in jobs.iter().enumerate() {
+        demands[place] = job.demand(now);
+    }
+    let demands = Demands::new(&demands[..jobs.len()]).unwrap();
+    planner::settings(&demands)
+}
+
+impl Book {
+    ghost use Rattle.book.specs.Settings.{listing};
+
+    /// Writes the settings in force into the first 256 places of the list.
+    ///
+    /// Refuses a list that has fewer, and leaves it as it was.
+    pub fn settings(&self, list: &mut [u8]) -> Result<(), BookFault>
+        ensures answer { result ≡ (listing self.entry.now list.old).answer }
+        ensures list { list.new ≡ (listing self.entry.now list.old).list }
+        ensures in_force { OnOk result (InForce horizon (demands self.entry.now.now self.entry.now.jobs) (listed list.new)) }
+    {
+        if list.len() < SETTINGS {
+            return Err(BookFault::Short { needed: SETTINGS });
+        }
+        let settings = settings_in_force(self.jobs.jobs(), self.tick);
+        for (tick, setting) in settings.iter().enumerate() {
+            list[tick] = *setting as u8;
+        }
+        Ok(())
+    }
+}
