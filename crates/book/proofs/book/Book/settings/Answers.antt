@@ -17,11 +17,11 @@ settings_in_force-settings-requires-clause-in_order c = subst InOrder (sym c.job
 
 pub overflow_cast-list : goal.overflow_cast-list
 overflow_cast-list c =
-    let now = c.self.inside.now in
+    let now = c.self.inside.tick in
     let lt : c.loop-tick.tick < horizon = omega (arith, theory.ticks) in
     let same = c.settings_in_force-settings.ensures.settings c.loop-tick.tick lt in
     let few = theory.standing.within (demands now c.jobs.result.now) c.self.inside.top (subst (λ js. NoneOverloaded horizon (demands now js) c.self.inside.top) (sym c.jobs.ensures.jobs) c.self.invariant.none_overloaded) c.loop-tick.tick lt in
-    omega (arith, c.self.invariant.top_fits)
+    omega (arith, c.self.invariant.top_within)
 
 pub loop-tick-preserved : goal.loop-tick-preserved
 loop-tick-preserved c =
@@ -34,7 +34,7 @@ loop-tick-preserved c =
 
 pub returns-clause-list : goal.returns-clause-list
 returns-clause-list c =
-    let b : View = record { now = c.self.inside.now; top = c.self.inside.top; jobs = c.self.inside.jobs } in
+    let b : View = record { now = c.self.inside.tick; top = c.self.inside.top; jobs = c.self.inside.jobs } in
     let list = c.args.list.now in
     let xs = c.settings_in_force-settings.result in
     let long : length xs ≡ 256 = search rules in
@@ -45,7 +45,7 @@ returns-clause-list c =
 
 pub returns-clause-in_force : goal.returns-clause-in_force
 returns-clause-in_force c =
-    let b : View = record { now = c.self.inside.now; top = c.self.inside.top; jobs = c.self.inside.jobs } in
+    let b : View = record { now = c.self.inside.tick; top = c.self.inside.top; jobs = c.self.inside.jobs } in
     let list = c.args.list.now in
     let xs = c.settings_in_force-settings.result in
     let long : length xs ≡ 256 = search rules in
