@@ -11,7 +11,7 @@ use Rattle.book.specs.Demands.{demands}
 use Rattle.book.specs.Book.{View, OpenAt, Lawful, with_jobs}
 
 -- fewer jobs have no more work in an interval
-work-filter : (p : Job → Bool) (now a b : ℕ) (js : List Job) → work (demands now (filter p js)) a b ≤ work (demands now js) a b
+pub work-filter : (p : Job → Bool) (now a b : ℕ) (js : List Job) → work (demands now (filter p js)) a b ≤ work (demands now js) a b
 work-filter p now a b [] = omega arith
 work-filter p now a b (j ∷ js) = let rest = work-filter p now a b js in grind arith
 

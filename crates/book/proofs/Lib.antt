@@ -11,3 +11,8 @@ pub mod Striking
 pub mod Offering
 -- the settings in force
 pub mod Planning
+-- the ready jobs of a tick, and serving them
+pub mod Ready
+pub mod Serving
+-- a tick leaves a lawful book
+pub mod Ticking

@@ -8,3 +8,5 @@ pub mod Refusals
 pub mod Calls
 pub mod Offers
 pub mod Settings
+pub mod Ready
+pub mod Ticks

@@ -18,7 +18,9 @@ mod job;
 mod overload;
 mod settings;
 mod table;
+mod tick;
 
 pub use book::Book;
 pub use fault::{BookFault, BookField};
 pub use job::Job;
+pub use tick::{Entry, Served};

@@ -1,9 +1,12 @@
 // The table of the open jobs.
-ghost use Rattle.std.specs.Prelude.{◌≡◌, ◌<◌, ◌≤◌, [], length, position, nat_le};
-ghost use Rattle.std.specs.List.{remove};
+ghost use Rattle.std.specs.Prelude.{◌≡◌, ◌<◌, ◌≤◌, [], length, map, position, nat_le, All};
+ghost use Rattle.std.specs.List.{filter, remove};
 ghost use Rattle.book.specs.Jobs.{has_ticket, is_open, with_job};
+ghost use Rattle.book.specs.Book.{OpenAt, InOrder};
+ghost use Rattle.book.specs.Ticks.{shares, worked, has_work, entries, with_entries};
 
 use super::job::Job;
+use super::tick::{Entry, serve};
 use std::marker::Model;
 
 /// How many jobs can be open.
@@ -103,5 +106,31 @@ impl Table {
     {
         self.places.copy_within(place + 1..self.count, place);
         self.count -= 1;
+    }
+    // Serves the jobs at now, with an entry for each that got units, and answers how many there are.
+    pub(super) fn serve(&mut self, now: u64, setting: u8, list: &mut [Entry]) -> usize
+        requires room { 64 ≤ length list.old }
+        requires in_order { InOrder self.old }
+        requires open { All (OpenAt now) self.old }
+        ensures jobs { self.new ≡ map worked (shares now setting self.old) }
+        ensures list { list.new ≡ with_entries (entries (shares now setting self.old)) list.old }
+        ensures count { result ≡ length (entries (shares now setting self.old)) }
+    {
+        serve(&mut self.places[..self.count], now, setting, list)
+    }
+
+    // Removes the jobs that have no work left.
+    pub(super) fn close_done(&mut self)
+        ensures { self.new ≡ filter has_work self.old }
+    {
+        let mut count = 0;
+        for place in 0..self.count {
+            let job = self.places[place];
+            if job.work > 0 {
+                self.places[count] = job;
+                count += 1;
+            }
+        }
+        self.count = count;
     }
 }

@@ -1,0 +1,277 @@
+-- Serving the ready jobs of a tick, one after the other.
+use Rattle.std.proofs.Common.{◌≡◌, ℕ, suc, ◌+◌, ◌-◌, ◌<◌, ◌≤◌, min, true, false, nat_le, nat_lt, inl, inr, List, [], ◌∷◌, ◌++◌, ◌∙◌, length, map, take, drop, get_or, set, refl, sym, ap, subst, arith, append_assoc}
+use Rattle.std.specs.List.{All}
+use Rattle.std.specs.List.Sorted.{IsPermutation}
+use Rattle.std.proofs.Math.Seq.{drop-cons, set-append_seam, get_or-append_seam}
+use Rattle.std.proofs.lemmas.List.{length-append, length-drop, append-nil}
+use Rattle.std.proofs.lemmas.Bool.{cases_Bool}
+use Rattle.std.proofs.lemmas.Bool.Decides.{nat_tests}
+use Rattle.std.proofs.lemmas.List.Elements.{All-head, All-tail}
+use Rattle.queue.specs.declared.ready.ReadyJob.{ReadyJob}
+use Rattle.queue.specs.Elements.{ready_before}
+use Rattle.queue.specs.Slots.{Slots, held}
+use Rattle.queue.specs.Says.{Removed}
+use Rattle.schedule.specs.Edf.{given}
+use Rattle.book.specs.declared.job.Job.{Job}
+use Rattle.book.specs.declared.tick.Entry.{Entry}
+use Rattle.book.specs.Jobs.{is_before}
+use Rattle.book.specs.Demands.{demand}
+use Rattle.book.specs.Book.{OpenAt, InOrder}
+use Rattle.book.specs.Ready.{ready, ready_from}
+use Rattle.book.specs.Ticks.{shares, worked, entry, entries, with_entries, has_work}
+use Rattle.book.proofs.Jobs.{AllPairs-head, AllPairs-tail}
+use Rattle.book.proofs.Ready.{Alike, alike, first_taken, ready_after, alike_length, alike_none}
+
+-- what a job gets
+busy : (now u : ℕ) (j : Job) → nat_le j.arrival now ≡ true → given u (demand now j) ≡ min j.work u
+busy now u j begun = grind (arith, nat_tests)
+
+idle : (now u : ℕ) (j : Job) → nat_le j.arrival now ≡ false → given u (demand now j) ≡ 0
+idle now u j later = grind (arith, nat_tests)
+
+-- what is left of jobs, and the entries, after u units
+abbrev pub jobs_then : ℕ → ℕ → List Job → List Job
+jobs_then now u js = map worked (shares now u js)
+
+abbrev pub entries_then : ℕ → ℕ → List Job → List Entry
+entries_then now u js = entries (shares now u js)
+
+worked_none : (j : Job) → worked (j, 0) ≡ j
+worked_none j = let e : j.work - 0 ≡ j.work = omega arith in λ i. record { ticket = j.ticket; arrival = j.arrival; deadline = j.deadline; work = e i }
+
+-- the first of the jobs whose window has begun, behind those that get nothing
+pub record Begun (now u : ℕ) (pre rest : List Job) : Type 0 where
+  pub before : List Job
+  pub job : Job
+  pub after : List Job
+  pub same : before ++ job ∷ after ≡ pre ++ rest
+  pub begun : nat_le job.arrival now ≡ true
+  pub working : All (λ j. has_work j ≡ true) (job ∷ after)
+  pub order : InOrder (job ∷ after)
+  pub queue : ready_from now (length before) (job ∷ after) ≡ ready_from now (length pre) rest
+  pub jobs : before ++ jobs_then now u (job ∷ after) ≡ pre ++ jobs_then now u rest
+  pub entries_same : entries_then now u (job ∷ after) ≡ entries_then now u rest
+  pub fewer : length (job ∷ after) ≤ length rest
+
+-- a job that has not begun gets nothing
+idle_jobs : (now u : ℕ) (j : Job) (js : List Job) → nat_le j.arrival now ≡ false → jobs_then now u (j ∷ js) ≡ j ∷ jobs_then now u js
+idle_jobs now u j js later =
+    let none = idle now u j later in
+    let all : u - 0 ≡ u = omega arith in
+    subst (λ g. (worked (j, g) ∷ map worked (shares now (u - g) js)) ≡ j ∷ jobs_then now u js) (sym none) (λ i. worked_none j i ∷ jobs_then now (all i) js)
+
+idle_entries : (now u : ℕ) (j : Job) (js : List Job) → nat_le j.arrival now ≡ false → entries_then now u (j ∷ js) ≡ entries_then now u js
+idle_entries now u j js later =
+    let none = idle now u j later in
+    let all : u - 0 ≡ u = omega arith in
+    subst (λ g. entries ((j, g) ∷ shares now (u - g) js) ≡ entries_then now u js) (sym none) (λ i. entries_then now (all i) js)
+
+pub skip : (now u : ℕ) (pre rest : List Job) → All (λ j. has_work j ≡ true) rest → InOrder rest → 0 < length (ready_from now (length pre) rest) → Begun now u pre rest
+skip now u pre [] working order some = absurd (omega arith)
+skip now u pre (j ∷ js) working order some = elim (cases_Bool (nat_le j.arrival now)) [
+  | inl t ↦ record {
+    before = pre;
+    job = j;
+    after = js;
+    same = refl;
+    begun = t;
+    working = working;
+    order = order;
+    queue = refl;
+    jobs = refl;
+    entries_same = refl;
+    fewer = omega arith;
+  }
+  | inr t ↦
+      let one : length (pre ++ j ∷ []) ≡ length pre + 1 = omega (arith, length-append pre (j ∷ [])) in
+      let rest_ready : ready_from now (length (pre ++ j ∷ [])) js ≡ ready_from now (length pre) (j ∷ js) = rw (t, one) refl in
+      let r = skip now u (pre ++ j ∷ []) js (All-tail (λ j. has_work j ≡ true) j js working) (AllPairs-tail (λ i k. is_before i k ≡ true) j js order) (omega (arith, ap length rest_ready)) in
+      record {
+        before = r.before;
+        job = r.job;
+        after = r.after;
+        same = r.same ∙ append_assoc pre (j ∷ []) js;
+        begun = r.begun;
+        working = r.working;
+        order = r.order;
+        queue = r.queue ∙ rest_ready;
+        jobs = r.jobs ∙ append_assoc pre (j ∷ []) (jobs_then now u js) ∙ ap (λ xs. pre ++ xs) (sym (idle_jobs now u j js t));
+        entries_same = r.entries_same ∙ sym (idle_entries now u j js t);
+        fewer = omega (arith, r.fewer);
+      }
+]
+
+-- the state of serving: the jobs of `pre` are served or passed over, those of `rest` are not yet, and `left` units remain for them. `jobs_after` and
+-- `all` are the jobs and the entries at the end, and the queue holds the ready jobs of `rest`
+pub record Serving (now left count : ℕ) (jobs jobs_after : List Job) (list first all : List Entry) (queue : List ReadyJob) : Type 0 where
+  pub pre : List Job
+  pub rest : List Job
+  pub done : List Entry
+  pub jobs_are : pre ++ rest ≡ jobs
+  pub working : All (λ j. has_work j ≡ true) rest
+  pub order : InOrder rest
+  pub queued : Alike (ready_from now (length pre) rest) queue
+  pub jobs_end : pre ++ jobs_then now left rest ≡ jobs_after
+  pub counted : length done ≡ count
+  pub room : length done + length rest ≤ 64
+  pub list_is : list ≡ with_entries done first
+  pub entries_end : done ++ entries_then now left rest ≡ all
+
+-- a job whose window has begun does its work, or what is left of the units if that is less
+served_jobs : (now u : ℕ) (j : Job) (js : List Job) → nat_le j.arrival now ≡ true → jobs_then now u (j ∷ js) ≡ worked (j, min j.work u) ∷ jobs_then now (u - min j.work u) js
+served_jobs now u j js begun = ap (λ g. worked (j, g) ∷ map worked (shares now (u - g) js)) (busy now u j begun)
+
+served_entries : (now u : ℕ) (j : Job) (js : List Job) → nat_le j.arrival now ≡ true → has_work j ≡ true → 0 < u
+    → entries_then now u (j ∷ js) ≡ entry (j, min j.work u) ∷ entries_then now (u - min j.work u) js
+served_entries now u j js begun working some =
+    let t : nat_lt 0 (min j.work u) ≡ true = grind (arith, nat_tests) in
+    ap (λ g. entries ((j, g) ∷ shares now (u - g) js)) (busy now u j begun) ∙ rw t refl
+
+-- an entry more is written
+more_entries : (es list : List Entry) (e : Entry) → length es < length list → set (with_entries es list) (length es) e ≡ with_entries (es ++ e ∷ []) list
+more_entries es list e lt =
+    let long : length (es ++ e ∷ []) ≡ suc (length es) = omega (arith, length-append es (e ∷ [])) in
+    rw (long, drop-cons list (length es) e lt, set-append_seam es (get_or list (length es) e) (drop (suc (length es)) list) e, append_assoc es (e ∷ []) (drop (suc (length es)) list)) refl
+
+-- what a take of the queue gives is the next ready job
+pub record Next (now left count : ℕ) (jobs jobs_after : List Job) (list first all : List Entry) (x : ReadyJob) (queue : List ReadyJob) : Type 0 where
+  pub job : Job
+  pub bound : x.place < length jobs
+  pub is : (d : Job) → get_or jobs x.place d ≡ job
+  pub room : count < length list
+  pub then : Serving now (left - min job.work left) (count + 1) (set jobs x.place (worked (job, min job.work left))) jobs_after
+      (set list count (entry (job, min job.work left))) first all queue
+
+-- the first job served, behind those that get nothing
+module _ (now left count : ℕ) (jobs jobs_after : List Job) (list first all : List Entry) (x : ReadyJob) (q r : Slots ReadyJob) (s : Serving now left count jobs jobs_after list first all (held q))
+    (some : 0 < left) (long : 64 ≤ length first) (taken : Removed ready_before x q r) where
+  nonempty : 0 < length (ready_from now (length s.pre) s.rest)
+  nonempty = alike_length (ready_from now (length s.pre) s.rest) (held q) x (held r) s.queued taken.holds
+
+  next_begun : Begun now left s.pre s.rest
+  next_begun = skip now left s.pre s.rest s.working s.order nonempty
+
+  abbrev served : ℕ
+  served = min next_begun.job.work left
+
+  queue_is : ready_from now (length next_begun.before) (next_begun.job ∷ next_begun.after) ≡ ready (length next_begun.before) next_begun.job ∷ ready_from now (length next_begun.before + 1) next_begun.after
+  queue_is = rw next_begun.begun refl
+
+  is_next : (ready (length next_begun.before) next_begun.job ≡ x) × Alike (ready_from now (length next_begun.before + 1) next_begun.after) (held r)
+  is_next =
+      let b = next_begun in
+      first_taken x (ready (length b.before) b.job) (ready_from now (length b.before + 1) b.after) (held q) (held r)
+      (subst (λ xs. Alike xs (held q)) (sym b.queue ∙ queue_is) s.queued)
+      (ready_after now (length b.before) (length b.before + 1) b.job b.after (AllPairs-head (λ i k. is_before i k ≡ true) b.job b.after b.order)) taken.holds taken.least
+
+  split : next_begun.before ++ next_begun.job ∷ next_begun.after ≡ jobs
+  split = next_begun.same ∙ s.jobs_are
+
+  place_is : length next_begun.before ≡ x.place
+  place_is = ap (λ (z : ReadyJob). z.place) is_next.0
+
+  first_works : has_work next_begun.job ≡ true
+  first_works = All-head (λ j. has_work j ≡ true) next_begun.job next_begun.after next_begun.working
+
+  room_left : count < length list
+  room_left = omega (arith, s.counted, s.room, next_begun.fewer, ap length s.list_is, length-append s.done (drop (length s.done) first), length-drop (length s.done) first)
+
+  then : Serving now (left - served) (count + 1) (set jobs x.place (worked (next_begun.job, served))) jobs_after (set list count (entry (next_begun.job, served))) first all (held r)
+  then =
+      let b = next_begun in
+      let w = worked (b.job, served) in
+      let e = entry (b.job, served) in
+      let one_job : length (b.before ++ w ∷ []) ≡ length b.before + 1 = omega (arith, length-append b.before (w ∷ [])) in
+      record {
+        pre = b.before ++ w ∷ [];
+        rest = b.after;
+        done = s.done ++ e ∷ [];
+        jobs_are =
+            append_assoc b.before (w ∷ []) b.after ∙ sym (set-append_seam b.before b.job b.after w) ∙ ap (λ xs. set xs (length b.before) w) split ∙ ap (λ n. set jobs n w) place_is;
+        working = All-tail (λ j. has_work j ≡ true) b.job b.after b.working;
+        order = AllPairs-tail (λ i k. is_before i k ≡ true) b.job b.after b.order;
+        queued = subst (λ n. Alike (ready_from now n b.after) (held r)) (sym one_job) is_next.1;
+        jobs_end =
+            append_assoc b.before (w ∷ []) (jobs_then now (left - served) b.after)
+            ∙ ap (λ xs. b.before ++ xs) (sym (served_jobs now left b.job b.after b.begun)) ∙ b.jobs ∙ s.jobs_end;
+        counted = omega (arith, length-append s.done (e ∷ []), s.counted);
+        room = omega (arith, length-append s.done (e ∷ []), s.room, b.fewer);
+        list_is = ap (λ xs. set xs count e) s.list_is ∙ ap (λ n. set (with_entries s.done first) n e) (sym s.counted) ∙ more_entries s.done first e (omega (arith, s.room, b.fewer));
+        entries_end =
+            append_assoc s.done (e ∷ []) (entries_then now (left - served) b.after)
+            ∙ ap (λ xs. s.done ++ xs) (sym (served_entries now left b.job b.after b.begun first_works some) ∙ b.entries_same) ∙ s.entries_end;
+      }
+
+  pub next : Next now left count jobs jobs_after list first all x (held r)
+  next =
+      let b = next_begun in
+      record {
+        job = b.job;
+        bound = omega (arith, place_is, ap length split, length-append b.before (b.job ∷ b.after));
+        is = λ d. sym (ap (λ n. get_or jobs n d) place_is) ∙ (sym (ap (λ xs. get_or xs (length b.before) d) split) ∙ get_or-append_seam b.before b.job b.after d);
+        room = room_left;
+        then = then;
+      }
+
+-- what serving leaves at its end
+pub record Served (jobs jobs_after : List Job) (list first all : List Entry) (count : ℕ) : Type 0 where
+  pub jobs_are : jobs ≡ jobs_after
+  pub list_is : list ≡ with_entries all first
+  pub count_is : count ≡ length all
+
+-- no units are left
+none_left : (now : ℕ) (js : List Job) → (jobs_then now 0 js ≡ js) × (entries_then now 0 js ≡ [])
+none_left now [] = (refl, refl)
+none_left now (j ∷ js) =
+    let rest = none_left now js in
+    let none : given 0 (demand now j) ≡ 0 = grind (arith, nat_tests) in (
+      ap (λ g. worked (j, g) ∷ map worked (shares now (0 - g) js)) none ∙ (λ i. worked_none j i ∷ rest.0 i),
+      ap (λ g. entries ((j, g) ∷ shares now (0 - g) js)) none ∙ rest.1,
+    )
+
+-- or no ready job is
+none_ready : (now u k : ℕ) (js : List Job) → length (ready_from now k js) ≡ 0 → (jobs_then now u js ≡ js) × (entries_then now u js ≡ [])
+none_ready now u k [] none = (refl, refl)
+none_ready now u k (j ∷ js) none = elim (cases_Bool (nat_le j.arrival now)) [
+  | inl t ↦ let some : length (ready_from now k (j ∷ js)) ≡ suc (length (ready_from now (k + 1) js)) = rw t refl in absurd (omega arith)
+  | inr t ↦
+      let same : ready_from now k (j ∷ js) ≡ ready_from now (k + 1) js = rw t refl in
+      let rest = none_ready now u (k + 1) js (omega (arith, ap length same)) in
+      (idle_jobs now u j js t ∙ ap (λ xs. j ∷ xs) rest.0, idle_entries now u j js t ∙ rest.1)
+]
+
+module _ (now left count : ℕ) (jobs jobs_after : List Job) (list first all : List Entry) (q : Slots ReadyJob) (s : Serving now left count jobs jobs_after list first all (held q)) where
+  ended : (jobs_then now left s.rest ≡ s.rest) × (entries_then now left s.rest ≡ []) → Served jobs jobs_after list first all count
+  ended same =
+      let written : s.done ≡ all = sym (append-nil s.done) ∙ (sym (ap (λ xs. s.done ++ xs) same.1) ∙ s.entries_end) in
+      record {
+        jobs_are = sym s.jobs_are ∙ (sym (ap (λ xs. s.pre ++ xs) same.0) ∙ s.jobs_end);
+        list_is = s.list_is ∙ ap (λ es. with_entries es first) written;
+        count_is = sym s.counted ∙ ap length written;
+      }
+
+  pub used_up : left ≡ 0 → Served jobs jobs_after list first all count
+  used_up none = ended (subst (λ u. (jobs_then now u s.rest ≡ s.rest) × (entries_then now u s.rest ≡ [])) (sym none) (none_left now s.rest))
+
+  pub all_served : q.count ≡ 0 → Served jobs jobs_after list first all count
+  all_served none =
+      let empty : held q ≡ [] = ap (λ n. take n q.places) none in
+      ended (none_ready now left (length s.pre) s.rest (alike_none (ready_from now (length s.pre) s.rest) (held q) s.queued empty))
+
+-- at the start none is served
+pub started : (now left : ℕ) (jobs : List Job) (first : List Entry) (queue : List ReadyJob) → length jobs ≤ 64 → InOrder jobs → All (OpenAt now) jobs
+    → IsPermutation (ready_from now 0 jobs) queue → Serving now left 0 jobs (jobs_then now left jobs) first first (entries_then now left jobs) queue
+started now left jobs first queue few order open_at queued = record {
+  pre = [];
+  rest = jobs;
+  done = [];
+  jobs_are = refl;
+  working = λ k d lt. let h = open_at k d lt in grind (arith, nat_tests);
+  order = order;
+  queued = alike (ready_from now 0 jobs) queue queued;
+  jobs_end = refl;
+  counted = refl;
+  room = omega arith;
+  list_is = refl;
+  entries_end = refl;
+}

@@ -1,0 +1,45 @@
+use Rattle.std.proofs.Common.{◌≡◌, ◌+◌, ◌<◌, ◌∙◌, false, Ok, ltb, ◌==◌, get_or, length, ap, arith}
+use Rattle.std.proofs.lemmas.Bool.Decides.{nat_tests}
+use Rattle.std.specs.List.{filter}
+use Rattle.schedule.specs.InForce.{horizon}
+use Rattle.schedule.proofs.Theory.{theory}
+use Rattle.book.specs.Book.{View, with_jobs, last_tick}
+use Rattle.book.specs.Settings.{settings_of}
+use Rattle.book.specs.Ticks.{has_work, with_entries}
+use Rattle.book.proofs.Serving.{jobs_then, entries_then}
+use Rattle.book.proofs.Ticking.{lawful_after}
+use Rattle.book.proofs.book.Book.tick.Goals as goal
+
+pub overflow_cast-setting : goal.overflow_cast-setting
+overflow_cast-setting c =
+    let b : View = record { now = c.self.inside.now; top = c.self.inside.top; jobs = c.self.inside.jobs } in
+    let lt : 0 < horizon = omega (arith, theory.ticks) in
+    let setting : get_or c.settings_in_force-settings.result 0 0 ≡ settings_of b 0 = c.settings_in_force-settings.ensures.settings 0 lt ∙ ap (λ js. settings_of (with_jobs js b) 0) c.jobs.ensures.jobs in
+    omega (arith, setting, theory.standing.within _ b.top c.self.invariant.none_overloaded 0 lt, c.self.invariant.top_fits)
+
+pub invariant_of-self : goal.invariant_of-self
+invariant_of-self c =
+    let b : View = record { now = c.self.inside.now; top = c.self.inside.top; jobs = c.self.inside.jobs } in
+    let lt : 0 < horizon = omega (arith, theory.ticks) in
+    let setting : get_or c.settings_in_force-settings.result 0 0 ≡ settings_of b 0 = c.settings_in_force-settings.ensures.settings 0 lt ∙ ap (λ js. settings_of (with_jobs js b) 0) c.jobs.ensures.jobs in
+    let jobs : c.close_done.new.self ≡ filter has_work (jobs_then b.now (settings_of b 0) b.jobs) =
+    c.close_done.ensures ∙ ap (filter has_work) (c.serve-count.ensures.jobs ∙ ap (λ u. jobs_then b.now u b.jobs) setting) in
+    rw jobs (lawful_after b c.self.invariant c.if-self-eq-LAST_TICK.false)
+
+pub returns : goal.returns
+returns c =
+    let b : View = record { now = c.self.inside.now; top = c.self.inside.top; jobs = c.self.inside.jobs } in
+    let lt : 0 < horizon = omega (arith, theory.ticks) in
+    let setting : get_or c.settings_in_force-settings.result 0 0 ≡ settings_of b 0 = c.settings_in_force-settings.ensures.settings 0 lt ∙ ap (λ js. settings_of (with_jobs js b) 0) c.jobs.ensures.jobs in
+    let jobs : c.close_done.new.self ≡ filter has_work (jobs_then b.now (settings_of b 0) b.jobs) =
+    c.close_done.ensures ∙ ap (filter has_work) (c.serve-count.ensures.jobs ∙ ap (λ u. jobs_then b.now u b.jobs) setting) in
+    let es = entries_then b.now (settings_of b 0) b.jobs in
+    let list : c.serve-count.new.list ≡ with_entries es c.args.list.now = c.serve-count.ensures.list ∙ ap (λ u. with_entries (entries_then b.now u b.jobs) c.args.list.now) setting in
+    let count : c.serve-count.result ≡ length es = c.serve-count.ensures.count ∙ ap (λ u. length (entries_then b.now u b.jobs)) setting in
+    let enough : ltb (length c.args.list.now) 64 ≡ false = grind (arith, nat_tests) in
+    let more : (b.now == last_tick) ≡ false = grind (arith, nat_tests) in
+    rw (← c.self.view_is, enough, more) (record {
+      answer = λ i. Ok (record { setting = setting i; count = count i });
+      after = λ i. record { now = b.now + 1; top = b.top; jobs = jobs i };
+      list = list;
+    })

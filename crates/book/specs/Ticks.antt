@@ -1,0 +1,65 @@
+-- What the call tick answers, the book that it leaves, and what its list holds afterwards.
+use Rattle.std.specs.Prelude.{ℕ, ◌+◌, ◌-◌, ◌++◌, Bool, if◌then◌else◌, List, length, map, drop, Some, None, Ok, Err, Option, Result, ◌==◌, nat_lt}
+use Rattle.std.specs.List.{filter, zip}
+use Rattle.schedule.specs.Edf.{serve}
+use Rattle.book.specs.declared.job.Job.{Job}
+use Rattle.book.specs.declared.fault.BookFault.{BookFault}
+use Rattle.book.specs.declared.fault.BookFault.TheVariants.{Short, LastTick}
+use Rattle.book.specs.declared.tick.Entry.{Entry}
+use Rattle.book.specs.declared.tick.Served.{Served}
+use Rattle.book.specs.Demands.{demands}
+use Rattle.book.specs.Book.{View, last_tick}
+use Rattle.book.specs.Settings.{settings_of}
+
+-- each job with what it gets of u units at now, in the order of serving
+abbrev pub shares : ℕ → ℕ → List Job → List (Job × ℕ)
+shares now u jobs = zip jobs (serve u (demands now jobs))
+
+-- a job with so many units less left
+abbrev pub worked : (Job × ℕ) → Job
+worked s = record { ticket = s.0.ticket; arrival = s.0.arrival; deadline = s.0.deadline; work = s.0.work - s.1 }
+
+abbrev pub entry : (Job × ℕ) → Entry
+entry s = record { ticket = s.0.ticket; units = s.1 }
+
+-- an entry for each job that gets units
+abbrev pub entries : List (Job × ℕ) → List Entry
+entries ss = map entry (filter (λ s. nat_lt 0 s.1) ss)
+
+-- whether a job has work left
+abbrev pub has_work : Job → Bool
+has_work j = nat_lt 0 j.work
+
+-- the shares of the tick at now, which serves the first setting in force
+abbrev pub shares_of : View → List (Job × ℕ)
+shares_of b = shares b.now (settings_of b 0) b.jobs
+
+-- the book one tick later: the jobs are worked on, and those with no work left close
+abbrev pub after_tick : View → View
+after_tick b = record { now = b.now + 1; top = b.top; jobs = filter has_work (map worked (shares_of b)) }
+
+-- the list with the entries in its first places
+abbrev pub with_entries : List Entry → List Entry → List Entry
+with_entries es list = es ++ drop (length es) list
+
+-- what tick answers, the book that it leaves, and what its list holds afterwards
+pub record Ticking : Type 0 where
+  pub answer : Result Served BookFault
+  pub book : View
+  pub list : List Entry
+
+-- why a tick is refused
+abbrev pub tick_fault : View → List Entry → Option BookFault
+tick_fault b list =
+    if nat_lt (length list) 64 then Some (Short 64) else
+    if b.now == last_tick then Some (LastTick b.now) else None
+
+-- a tick that is not refused serves the open jobs
+abbrev pub ticking : Option BookFault → View → List Entry → Ticking
+ticking (Some fault) b list = record { answer = Err fault; book = b; list = list }
+ticking None b list =
+    let es = entries (shares_of b) in
+    record { answer = Ok (record { setting = settings_of b 0; count = length es }); book = after_tick b; list = with_entries es list }
+
+abbrev pub ticked : View → List Entry → Ticking
+ticked b list = ticking (tick_fault b list) b list
