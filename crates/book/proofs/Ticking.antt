@@ -74,12 +74,12 @@ open_after now u (j ∷ js) all due =
     (λ works.
     let some : 0 < j.work - g = grind (arith, nat_tests) in
     record {
-      ticket = h.ticket;
+      some_ticket = h.some_ticket;
       work_left = some;
       not_due = elim (cases_lt (now + 1) j.deadline) [ inl lt ↦ lt | inr le ↦ absurd (omega (arith, done (omega arith))) ];
       in_sight = omega (arith, h.in_sight);
       in_time = h.in_time;
-      window = h.window;
+      some_window = h.some_window;
       short_window = h.short_window;
     })
     (open_after now (u - g) js (All-tail (OpenAt now) j js all) (All-tail (λ (d : Demand). d.to ≡ 0 → d.units ≡ 0) (later g (demand now j)) (next (u - g) (demands now js)) due))
@@ -95,8 +95,8 @@ lawful_after b h more =
     let t = law b h in
     record {
       in_time = omega (arith, h.in_time);
-      top_above_none = h.top_above_none;
-      top_fits = h.top_fits;
+      top_positive = h.top_positive;
+      top_within = h.top_within;
       few = omega (
         arith,
         h.few,

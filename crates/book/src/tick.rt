@@ -108,14 +108,14 @@ impl Book {
         if list.len() < PLACES {
             return Err(BookFault::Short { needed: PLACES });
         }
-        if self.now == LAST_TICK {
-            return Err(BookFault::LastTick { now: self.now });
+        if self.tick == LAST_TICK {
+            return Err(BookFault::LastTick { now: self.tick });
         }
-        let settings = settings_in_force(self.jobs.jobs(), self.now);
+        let settings = settings_in_force(self.jobs.jobs(), self.tick);
         let setting = settings[0] as u8;
-        let count = self.jobs.serve(self.now, setting, list);
+        let count = self.jobs.serve(self.tick, setting, list);
         self.jobs.close_done();
-        self.now += 1;
+        self.tick += 1;
         Ok(Served { setting, count })
     }
 }
