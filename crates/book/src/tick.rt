@@ -85,10 +85,8 @@ pub(super) fn serve(jobs: &mut [Job], now: u64, setting: u8, list: &mut [Entry])
         };
         let job = &mut jobs[usize::from(next.place)];
         let units = job.serve(left);
-        list[count] = Entry {
-            ticket: job.ticket,
-            units,
-        };
+        let ticket = job.ticket;
+        list[count] = Entry { ticket, units };
         left -= units;
         count += 1;
     }
