@@ -1,3 +1,4 @@
+use book::BookFault;
 use layout::{ReadFault, WriteFault, WrittenField};
 use refusal::{Layer, Refusal, Values};
 use std::test::Fail;
@@ -40,17 +41,34 @@ fn passed_up(fault: ReadFault) -> Result<(), BenchFault> {
     Ok(())
 }
 
+fn book_passed_up(fault: BookFault) -> Result<(), BenchFault> {
+    Err(fault)?;
+    Ok(())
+}
+
 #[test]
 fn a_fault_passes_up_whole(rt: HostRuntime) {
     let fault = ReadFault::Forbidden { place: 73 };
-    assert_eq!(rt; passed_up(fault), Err(BenchFault::Read(fault)));
+    let whole = BenchFault::Book(BookFault::Read(fault));
+    assert_eq!(rt; passed_up(fault), Err(whole));
     assert_eq!(rt;
-        Refusal::from(BenchFault::Read(fault)),
+        Refusal::from(whole),
         Refusal::with_value(Layer::Record, 3, 73)
     );
-    assert!(rt; !BenchFault::Read(fault).ends_run());
-    assert!(rt; !BenchFault::Read(ReadFault::UnknownKind { place: 72 }).ends_run());
-    assert!(rt; BenchFault::Read(ReadFault::Cut { place: 72 }).ends_run());
+    assert!(rt; !whole.ends_run());
+    assert!(rt; !BenchFault::from(ReadFault::UnknownKind { place: 72 }).ends_run());
+    assert!(rt; BenchFault::from(ReadFault::Cut { place: 72 }).ends_run());
+}
+
+#[test]
+fn a_fault_of_the_book_passes_up_whole(rt: HostRuntime) {
+    let fault = BookFault::NotOpen { ticket: 9 };
+    assert_eq!(rt; book_passed_up(fault), Err(BenchFault::Book(fault)));
+    assert_eq!(rt;
+        Refusal::from(BenchFault::Book(fault)),
+        Refusal::with_value(Layer::Book, 9, 9)
+    );
+    assert!(rt; !BenchFault::Book(fault).ends_run());
 }
 
 #[test]

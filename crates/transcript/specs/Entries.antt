@@ -1,52 +1,96 @@
--- What the transcript says of each record.
-use Rattle.std.specs.Prelude.{ℕ, Bool, false, List, Some, None, Ok, Err, codes, Option, Result}
+-- What the transcript says of each record, worked with a book.
+use Rattle.std.specs.Prelude.{ℕ, ◌*◌, zero, suc, Bool, false, List, take, replicate, Some, None, Ok, Err, codes, Option, Result}
 use Rattle.layout.specs.declared.fault.ReadFault.{ReadFault}
 use Rattle.layout.specs.Content.{Content, offer, strike, tick}
 use Rattle.layout.specs.Label.{shown_label}
 use Rattle.layout.specs.Reading.{read_at}
+use Rattle.book.specs.declared.fault.BookFault.{BookFault}
+use Rattle.book.specs.declared.fault.BookFault.TheVariants.{Read}
+use Rattle.book.specs.declared.tick.Entry.{Entry as Share}
+use Rattle.book.specs.declared.tick.Served.{Served}
+use Rattle.book.specs.Book.{View, empty_book}
+use Rattle.book.specs.Calls.{offered, struck}
+use Rattle.book.specs.Ticks.{ticked, entries, shares_of}
 use Rattle.transcript.specs.declared.fault.BenchFault.{BenchFault}
-use Rattle.transcript.specs.declared.fault.BenchFault.TheVariants.{Read}
+use Rattle.transcript.specs.declared.fault.BenchFault.TheVariants.{Book}
 use Rattle.transcript.specs.declared.line.Line.{Line}
-use Rattle.transcript.specs.declared.line.Line.TheVariants.{Offer, Strike, Tick, Refused}
+use Rattle.transcript.specs.declared.line.Line.TheVariants.{Offered, Struck, Ticked, Refused}
+use Rattle.transcript.specs.declared.line.Tick.{Tick}
 use Rattle.transcript.specs.Refusals.{ends_run}
 
--- an entry of the transcript
+-- an entry of the transcript: a job that the book took, one that it closed, a tick that it served, or a refusal
 pub data Entry : Type 0 where
-  offered : (ticket arrival deadline work : ℕ) (label : List ℕ) → Entry
-  struck : (ticket : ℕ) → Entry
-  ticked : Entry
+  taken : (ticket : ℕ) (label : List ℕ) → Entry
+  closed : (ticket : ℕ) → Entry
+  served : (now setting : ℕ) (shares : List Share) → Entry
   refused : (place : ℕ) (fault : BenchFault) → Entry
+
+-- the entry that a tick of the code stands for
+abbrev pub entry_of_tick : Tick → Entry
+entry_of_tick t = served t.now t.setting (take t.count t.list)
 
 -- the entry that a line of the code stands for
 abbrev pub entry_of : Line → Entry
-entry_of (Offer o) = offered o.ticket o.arrival o.deadline o.work o.label.now
-entry_of (Strike t) = struck t
-entry_of Tick = ticked
+entry_of (Offered ticket label) = taken ticket label.now
+entry_of (Struck ticket) = closed ticket
+entry_of (Ticked t) = entry_of_tick t
 entry_of (Refused place f) = refused place f
 
-abbrev pub content_entry : Content → Entry
-content_entry (offer t a d w l) = offered t a d w (shown_label l (codes "house"))
-content_entry (strike t) = struck t
-content_entry tick = ticked
+-- what the bench makes of a record: its entry or the fault, none at the end of the input, and the book afterwards
+pub record Step : Type 0 where
+  pub answer : Result (Option Entry) BenchFault
+  pub book : View
 
--- the entry of a record that was read; none at the end of the input
-abbrev pub read_entry : Result (Option Content) ReadFault → Result (Option Entry) BenchFault
-read_entry (Ok None) = Ok None
-read_entry (Ok (Some c)) = Ok (Some (content_entry c))
-read_entry (Err e) = Err (Read e)
+-- an entry, unless the book refuses the call
+abbrev pub entry_unless : {X : Type 0} → Result X BookFault → Entry → Result (Option Entry) BenchFault
+entry_unless (Ok x) e = Ok (Some e)
+entry_unless (Err f) e = Err (Book f)
 
--- what the bench makes of the record at a place of the input
-abbrev pub step_at : List ℕ → ℕ → Result (Option Entry) BenchFault
-step_at input place = read_entry (read_at input place)
+-- the list that a tick writes into
+abbrev pub no_entries : List Share
+no_entries = replicate 64 (record { ticket = 0; units = 0 })
+
+-- the entry of a tick that a book serves
+abbrev pub tick_entry : View → Result Served BookFault → Result Entry BookFault
+tick_entry b (Ok s) = Ok (served b.now s.setting (entries (shares_of b)))
+tick_entry b (Err f) = Err f
+
+-- an answer of the book, as the bench passes it on
+abbrev pub passed_on : Result Entry BookFault → Result (Option Entry) BenchFault
+passed_on (Ok e) = Ok (Some e)
+passed_on (Err f) = Err (Book f)
+
+-- a record worked with a book
+abbrev pub content_step : View → Content → Step
+content_step b (offer t a d w l) =
+    let call = offered b (record { ticket = t; arrival = a; deadline = d; work = w }) in
+    record { answer = entry_unless call.answer (taken t (shown_label l (codes "house"))); book = call.book }
+content_step b (strike t) = record { answer = entry_unless (struck b t).answer (closed t); book = (struck b t).book }
+content_step b tick = record { answer = passed_on (tick_entry b (ticked b no_entries).answer); book = (ticked b no_entries).book }
+
+-- a record that was read, or none at the end of the input, with a book
+abbrev pub read_step : View → Result (Option Content) ReadFault → Step
+read_step b (Ok None) = record { answer = Ok None; book = b }
+read_step b (Ok (Some c)) = content_step b c
+read_step b (Err e) = record { answer = Err (Book (Read e)); book = b }
+
+-- what the bench makes of the record at a place of the input, with a book
+abbrev pub step_at : View → List ℕ → ℕ → Step
+step_at b input place = read_step b (read_at input place)
 
 -- a fault is an entry too, with the place of its record
 abbrev pub told_entry : ℕ → Result (Option Entry) BenchFault → Option Entry
 told_entry place (Ok e) = e
 told_entry place (Err f) = Some (refused place f)
 
--- the entry of the record at a place of the input
-abbrev pub entry_at : List ℕ → ℕ → Option Entry
-entry_at input place = told_entry place (step_at input place)
+-- the entry of the record at a place of the input, with a book
+abbrev pub entry_at : View → List ℕ → ℕ → Option Entry
+entry_at b input place = told_entry place (step_at b input place).answer
+
+-- the book before the record k: the records before it are worked with a book at 0 with top 4
+abbrev pub book_before : List ℕ → ℕ → View
+book_before input zero = empty_book 0 4
+book_before input (suc k) = (step_at (book_before input k) input (24 * k)).book
 
 -- whether the run ends with this
 abbrev pub over_by : Result (Option Entry) BenchFault → Bool
@@ -54,6 +98,10 @@ over_by (Ok e) = false
 over_by (Err f) = ends_run f
 
 -- the code's answers as plain values
+abbrev pub tick_by : Result Tick BookFault → Result Entry BookFault
+tick_by (Ok t) = Ok (entry_of_tick t)
+tick_by (Err f) = Err f
+
 abbrev pub step_by : Result (Option Line) BenchFault → Result (Option Entry) BenchFault
 step_by (Ok None) = Ok None
 step_by (Ok (Some l)) = Ok (Some (entry_of l))

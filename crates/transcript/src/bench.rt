@@ -1,18 +1,29 @@
 // The bench works the records of a file one by one.
 ghost use Rattle.std.specs.Prelude.{◌≡◌, IsAscii};
-ghost use Rattle.transcript.specs.Entries.{entry_by, step_by};
+ghost use Rattle.book.specs.Ticks.{ticked};
+ghost use Rattle.transcript.specs.Entries.{entry_by, step_by, tick_by, tick_entry, no_entries};
 ghost use Rattle.std.specs.Iterator.{at_most};
 ghost use Rattle.transcript.specs.Run.{start_of, step_of, passed, lines_left, SaysNext};
 
 use super::fault::BenchFault;
-use super::line::Line;
-use layout::Record;
+use super::line::{Line, PLACES, Tick};
+use book::{Book, BookFault, Entry, Job, Served};
+use layout::{Offer, Record};
 use record::{Reader, shown};
 use std::marker::Model;
 use std::str::from_utf8;
 
 // What a blank label shows.
 const DEFAULT_LABEL: &[u8] = b"house";
+
+// The top of the bench's book.
+const TOP: u16 = 4;
+
+// A place of a list that no entry is written into.
+const NO_ENTRY: Entry = Entry {
+    ticket: 0,
+    units: 0,
+};
 
 // A label as text.
 fn text(label: &[u8]) -> &str
@@ -22,10 +33,27 @@ fn text(label: &[u8]) -> &str
     from_utf8(label).unwrap()
 }
 
-/// Works the records of a file one by one.
+// Serves one tick of the book.
+fn tick(book: &mut Book) -> Result<Tick, BookFault>
+    ensures said { tick_by result ≡ tick_entry book.old (ticked book.old no_entries).answer }
+    ensures after { book.new ≡ (ticked book.old no_entries).book }
+{
+    let now = book.now();
+    let mut list = [NO_ENTRY; PLACES];
+    let Served { setting, count } = book.tick(&mut list)?;
+    Ok(Tick {
+        now,
+        setting,
+        list,
+        count,
+    })
+}
+
+/// Works the records of a file one by one with a book.
 #[derive(Drop)]
 pub struct Bench<'a> {
     reader: Reader<'a>,
+    book: Book,
     // Whether a fault has ended the run. A flag, since a run that is over still has its input and its place in what is promised.
     over: bool,
 }
@@ -43,31 +71,53 @@ impl<'a> Model for Bench<'a> {
 }
 
 impl<'a> Bench<'a> {
-    /// A bench at the start of the input.
+    /// A bench at the start of the input, with a book at 0 with top 4.
     pub fn new(input: &'a [u8]) -> Bench<'a>
         ensures { result ≡ start_of input.now }
     {
+        let mut book = Book::new();
+        book.open(0, TOP).unwrap();
         Bench {
             reader: Reader::new(input),
+            book,
             over: false,
         }
     }
 
-    // Reads the next record, and says what it is.
+    // Reads the next record and works it, and says what it did.
     fn step(&mut self) -> Result<Option<Line<'a>>, BenchFault>
-        ensures said { step_by result ≡ step_of self.old }
+        ensures said { step_by result ≡ (step_of self.old).answer }
         ensures after { self.new ≡ passed self.old }
     {
         let Some(record) = self.reader.next()? else {
             return Ok(None);
         };
         Ok(Some(match record {
-            Record::Offer(offer) => {
-                let label = text(shown(offer.label, DEFAULT_LABEL));
-                Line::Offer(offer.with_label(label))
+            Record::Offer(
+                Offer {
+                    ticket,
+                    arrival,
+                    deadline,
+                    work,
+                    label,
+                },
+            ) => {
+                self.book.offer(Job {
+                    ticket,
+                    arrival,
+                    deadline,
+                    work,
+                })?;
+                Line::Offered {
+                    ticket,
+                    label: text(shown(label, DEFAULT_LABEL)),
+                }
             }
-            Record::Strike { ticket } => Line::Strike { ticket },
-            Record::Tick => Line::Tick,
+            Record::Strike { ticket } => {
+                self.book.strike(ticket)?;
+                Line::Struck { ticket }
+            }
+            Record::Tick => Line::Ticked(tick(&mut self.book)?),
         }))
     }
 }

@@ -1,23 +1,33 @@
 // The faults of the bench. Each layer keeps the fault of the layer below whole.
 ghost use Rattle.std.specs.Prelude.{◌≡◌};
-ghost use Rattle.transcript.specs.declared.fault.BenchFault.TheVariants.{Read};
+ghost use Rattle.transcript.specs.declared.fault.BenchFault.TheVariants.{Book};
+ghost use Rattle.book.specs.declared.fault.BookFault.TheVariants.{Read};
 ghost use Rattle.transcript.specs.Refusals.{bench_refusal, ends_run};
 
+use book::BookFault;
 use layout::ReadFault;
 use refusal::Refusal;
 
 /// Why the bench refuses a record.
 #[derive(Clone, Copy, PartialEq, Eq, Debug)]
 pub enum BenchFault {
-    /// The record is not read.
-    Read(ReadFault),
+    /// The book refuses the record, or it is not read.
+    Book(BookFault),
+}
+
+impl From<BookFault> for BenchFault {
+    ghost from_gives = { λ fault above. above ≡ Book fault };
+
+    fn from(fault: BookFault) -> BenchFault {
+        BenchFault::Book(fault)
+    }
 }
 
 impl From<ReadFault> for BenchFault {
-    ghost from_gives = { λ fault above. above ≡ Read fault };
+    ghost from_gives = { λ fault above. above ≡ Book (Read fault) };
 
     fn from(fault: ReadFault) -> BenchFault {
-        BenchFault::Read(fault)
+        BookFault::from(fault).into()
     }
 }
 
@@ -26,7 +36,7 @@ impl From<BenchFault> for Refusal {
 
     fn from(fault: BenchFault) -> Refusal {
         match fault {
-            BenchFault::Read(read) => read.into(),
+            BenchFault::Book(book) => book.into(),
         }
     }
 }
@@ -36,6 +46,9 @@ impl BenchFault {
     pub fn ends_run(self) -> bool
         ensures { result ≡ ends_run self }
     {
-        matches!(self, BenchFault::Read(ReadFault::Cut { .. }))
+        matches!(
+            self,
+            BenchFault::Book(BookFault::Read(ReadFault::Cut { .. }))
+        )
     }
 }

@@ -1,4 +1,4 @@
-// What `bench` prints of a file of records: a line for each.
+// What `bench` prints of a file of records, which it works with a book: a line for each.
 #![tactic(auto)]
 
 mod bench;
@@ -8,5 +8,5 @@ mod text;
 
 pub use bench::Bench;
 pub use fault::BenchFault;
-pub use line::Line;
+pub use line::{Line, Tick};
 pub use text::Transcript;

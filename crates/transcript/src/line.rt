@@ -1,21 +1,48 @@
 // One line of the transcript.
-ghost use Rattle.std.specs.Prelude.{Some};
+ghost use Rattle.std.specs.Prelude.{◌≡◌, Some, take};
 ghost use Rattle.transcript.specs.Entries.{entry_of};
-ghost use Rattle.transcript.specs.Text.{entry_text};
+ghost use Rattle.transcript.specs.Text.{entry_text, tick_text};
 
 use super::fault::BenchFault;
-use layout::Offer;
+use book::Entry;
 use refusal::Refusal;
 use std::fmt;
 
-/// What the bench says of one record: what it is, or why and where it is refused. `{}` writes the line without its
+// How many places a tick needs for its entries.
+pub(super) const PLACES: usize = 64;
+
+/// What a tick served.
+#[derive(Clone, Copy)]
+pub struct Tick {
+    /// The tick.
+    pub now: u64,
+    pub setting: u8,
+    /// The entries, in the first places.
+    pub list: [Entry; PLACES],
+    /// How many there are.
+    pub count: usize,
+}
+
+impl fmt::Display for Tick {
+    ghost output = { λ t. Some (tick_text t.now t.setting (take t.count t.list)) };
+
+    fn fmt<W: fmt::Write>(&self, f: &mut fmt::Formatter<W>) -> fmt::Result {
+        write!(f, "T {} {}", self.now, self.setting)?;
+        let count = self.count.min(PLACES);
+        for entry in &self.list[..count] {
+            write!(f, " {}:{}", entry.ticket, entry.units)?;
+        }
+        Ok(())
+    }
+}
+
+/// What the bench says of one record: what it did, or why and where it is refused. `{}` writes the line without its
 /// line feed.
-// Strike and tick as in `Record`, and no `Record` inside: the step would copy the same three cases, and a line would be one enum deeper.
 #[derive(Clone, Copy)]
 pub enum Line<'a> {
-    Offer(Offer<&'a str>),
-    Strike { ticket: u16 },
-    Tick,
+    Offered { ticket: u16, label: &'a str },
+    Struck { ticket: u16 },
+    Ticked(Tick),
     Refused { place: usize, fault: BenchFault },
 }
 
@@ -24,17 +51,9 @@ impl fmt::Display for Line<'_> {
 
     fn fmt<W: fmt::Write>(&self, f: &mut fmt::Formatter<W>) -> fmt::Result {
         match *self {
-            Line::Offer(
-                Offer {
-                    ticket,
-                    arrival,
-                    deadline,
-                    work,
-                    label,
-                },
-            ) => write!(f, "O {ticket} {arrival} {deadline} {work} {label}"),
-            Line::Strike { ticket } => write!(f, "S {ticket}"),
-            Line::Tick => write!(f, "T"),
+            Line::Offered { ticket, label } => write!(f, "O {ticket} ok {label}"),
+            Line::Struck { ticket } => write!(f, "S {ticket} ok"),
+            Line::Ticked(tick) => write!(f, "{tick}"),
             Line::Refused { place, fault } => {
                 let refusal = Refusal::from(fault);
                 write!(f, "R {place} {refusal}")
