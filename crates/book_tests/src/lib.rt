@@ -12,3 +12,5 @@ mod places;
 mod samples;
 #[cfg(test)]
 mod telling;
+#[cfg(test)]
+mod ticks;
