@@ -1,4 +1,5 @@
 use super::samples::{OFFER, STRIKE, TICK};
+use std::alloc::{AllocError, Global};
 use std::test::Fail;
 use transcript::Transcript;
 
@@ -20,6 +21,15 @@ fn strike(ticket: u8) -> [u8; 24] {
     bytes[2] = 0;
     bytes[3] = ticket;
     bytes
+}
+
+// A file of these records.
+fn file_of(alloc: Global, records: &[[u8; 24]]) -> Result<Vec<u8>, AllocError> {
+    let mut input = Vec::new(alloc);
+    for record in records {
+        input.extend_from_slice(record)?;
+    }
+    Ok(input)
 }
 
 #[test]
@@ -62,15 +72,17 @@ fn a_cut_record_is_the_last_line(rt: HostRuntime) -> Result<(), Fail> {
 
 #[test]
 fn the_records_are_worked(rt: HostRuntime) -> Result<(), Fail> {
-    let mut input = [0u8; 168];
-    input[0..24].copy_from_slice(&offer(7, 0, 2, 3, b"fader "));
-    input[24..48].copy_from_slice(&offer(9, 0, 3, 1, b"      "));
-    input[48..72].copy_from_slice(&TICK);
-    input[72..96].copy_from_slice(&offer(5, 1, 2, 5, b"cue   "));
-    input[96..120].copy_from_slice(&TICK);
-    input[120..144].copy_from_slice(&strike(9));
-    input[144..168].copy_from_slice(&strike(9));
-    let text = format!(in rt.alloc(); "{}", Transcript::of(&input))?;
+    let records = [
+        offer(7, 0, 2, 3, b"fader "),
+        offer(9, 0, 3, 1, b"      "),
+        TICK,
+        offer(5, 1, 2, 5, b"cue   "),
+        TICK,
+        strike(9),
+        strike(9),
+    ];
+    let input = file_of(rt.alloc(), &records)?;
+    let text = format!(in rt.alloc(); "{}", Transcript::of(input.as_slice()))?;
     assert_eq!(rt;
         text.as_str(),
         "O 7 ok fader\nO 9 ok house\nT 0 2 7:2\nR 72 8 1 2 6\nT 1 1 7:1\nS 9 ok\nR 144 9 9\n"
@@ -80,12 +92,14 @@ fn the_records_are_worked(rt: HostRuntime) -> Result<(), Fail> {
 
 #[test]
 fn a_tick_prints_each_entry(rt: HostRuntime) -> Result<(), Fail> {
-    let mut input = [0u8; 96];
-    input[0..24].copy_from_slice(&offer(2, 0, 1, 3, b"b     "));
-    input[24..48].copy_from_slice(&offer(1, 0, 1, 1, b" a    "));
-    input[48..72].copy_from_slice(&TICK);
-    input[72..96].copy_from_slice(&TICK);
-    let text = format!(in rt.alloc(); "{}", Transcript::of(&input))?;
+    let records = [
+        offer(2, 0, 1, 3, b"b     "),
+        offer(1, 0, 1, 1, b" a    "),
+        TICK,
+        TICK,
+    ];
+    let input = file_of(rt.alloc(), &records)?;
+    let text = format!(in rt.alloc(); "{}", Transcript::of(input.as_slice()))?;
     assert_eq!(rt;
         text.as_str(),
         "O 2 ok b\nO 1 ok  a\nT 0 4 1:1 2:3\nT 1 0\n"
