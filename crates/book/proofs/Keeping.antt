@@ -18,12 +18,14 @@ work-filter p now a b (j ∷ js) = let rest = work-filter p now a b js in grind 
 -- a strike leaves a lawful book
 pub lawful-without : (t : ℕ) (b : View) → Lawful b → Lawful (with_jobs (without t b.jobs) b)
 lawful-without t b h = record {
-  in_time = h.in_time;
-  top_positive = h.top_positive;
-  top_within = h.top_within;
-  few = omega (arith, h.few, length-filter (λ j. not (has_ticket t j)) b.jobs, count_by-le-length (λ j. not (has_ticket t j)) b.jobs);
-  tickets_differ = AllPairs-filter (λ j k. j.ticket ≢ k.ticket) (λ j. not (has_ticket t j)) b.jobs h.tickets_differ;
-  in_order = AllPairs-filter (λ j k. is_before j k ≡ true) (λ j. not (has_ticket t j)) b.jobs h.in_order;
-  jobs_open = All-filter (λ j. not (has_ticket t j)) (OpenAt b.now) b.jobs h.jobs_open;
+  well_formed = record {
+    in_time = h.well_formed.in_time;
+    top_positive = h.well_formed.top_positive;
+    top_within = h.well_formed.top_within;
+    few = omega (arith, h.well_formed.few, length-filter (λ j. not (has_ticket t j)) b.jobs, count_by-le-length (λ j. not (has_ticket t j)) b.jobs);
+    tickets_differ = AllPairs-filter (λ j k. j.ticket ≢ k.ticket) (λ j. not (has_ticket t j)) b.jobs h.well_formed.tickets_differ;
+    in_order = AllPairs-filter (λ j k. is_before j k ≡ true) (λ j. not (has_ticket t j)) b.jobs h.well_formed.in_order;
+    jobs_open = All-filter (λ j. not (has_ticket t j)) (OpenAt b.now) b.jobs h.well_formed.jobs_open;
+  };
   none_overloaded = λ x y lt le. omega (arith, work-filter (λ j. not (has_ticket t j)) b.now x y b.jobs, h.none_overloaded x y lt le);
 }

@@ -91,10 +91,10 @@ no_fault (Some x) e = absurd (cc)
 -- the offered job counted, in a lawful book
 module _ (b : View) (j : Job) (lawful : Lawful b) (ok : Admissible b j) where
   pub counted_order : InOrder (with_job j b.jobs)
-  counted_order = in_order-with_job j b.jobs ok.closed lawful.in_order
+  counted_order = in_order-with_job j b.jobs ok.closed lawful.well_formed.in_order
 
   pub counted_open : All (OpenAt b.now) (with_job j b.jobs)
-  counted_open = All-insert (OpenAt b.now) b.jobs (position_or_len (is_before j) b.jobs) j ok.is_open_at lawful.jobs_open
+  counted_open = All-insert (OpenAt b.now) b.jobs (position_or_len (is_before j) b.jobs) j ok.is_open_at lawful.well_formed.jobs_open
 
   counted_sound : Sound horizon (demands b.now (with_job j b.jobs))
   counted_sound = sound-demands horizon b.now (with_job j b.jobs) theory.ticks counted_open
@@ -104,13 +104,15 @@ module _ (b : View) (j : Job) (lawful : Lawful b) (ok : Admissible b j) where
 
   pub counted_lawful : overload_in (counted b j) ≡ None → Lawful (counted b j)
   counted_lawful none = record {
-    in_time = lawful.in_time;
-    top_positive = lawful.top_positive;
-    top_within = lawful.top_within;
-    few = omega (arith, length-insert b.jobs (position_or_len (is_before j) b.jobs) j (prefix_len-le-length (λ k. not (is_before j k)) b.jobs), ok.room);
-    tickets_differ = tickets_differ-with_job j b.jobs ok.closed lawful.tickets_differ;
-    in_order = counted_order;
-    jobs_open = counted_open;
+    well_formed = record {
+      in_time = lawful.well_formed.in_time;
+      top_positive = lawful.well_formed.top_positive;
+      top_within = lawful.well_formed.top_within;
+      few = omega (arith, length-insert b.jobs (position_or_len (is_before j) b.jobs) j (prefix_len-le-length (λ k. not (is_before j k)) b.jobs), ok.room);
+      tickets_differ = tickets_differ-with_job j b.jobs ok.closed lawful.well_formed.tickets_differ;
+      in_order = counted_order;
+      jobs_open = counted_open;
+    };
     none_overloaded = subst (Searched horizon (demands b.now (with_job j b.jobs)) b.top) none counted_searched;
   }
 

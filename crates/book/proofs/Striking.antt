@@ -12,7 +12,7 @@ pub struck_missed : (t : ℕ) (b : View) → position (has_ticket t) b.jobs ≡ 
 struck_missed t b e = rw (not_open (has_ticket t) b.jobs e) refl
 
 pub struck_found : (t i : ℕ) (b : View) → Lawful b → position (has_ticket t) b.jobs ≡ Some i → struck b t ≡ record { answer = Ok tt; book = with_jobs (remove b.jobs i) b }
-struck_found t i b h e = rw (found_open t i b.jobs e, found_without t i b.jobs e h.tickets_differ) refl
+struck_found t i b h e = rw (found_open t i b.jobs e, found_without t i b.jobs e h.well_formed.tickets_differ) refl
 
 pub lawful_removed : (t i : ℕ) (b : View) → Lawful b → position (has_ticket t) b.jobs ≡ Some i → Lawful (with_jobs (remove b.jobs i) b)
-lawful_removed t i b h e = rw (found_without t i b.jobs e h.tickets_differ) (lawful-without t b h)
+lawful_removed t i b h e = rw (found_without t i b.jobs e h.well_formed.tickets_differ) (lawful-without t b h)

@@ -86,7 +86,7 @@ open_after now u (j ∷ js) all due =
 
 -- the law of a tick, for a lawful book
 law : (b : View) → Lawful b → Ticked (demands b.now b.jobs)
-law b h = theory.serving.ticked (demands b.now b.jobs) (sorted-demands b.now b.jobs h.in_order) (sound-demands horizon b.now b.jobs theory.ticks h.jobs_open)
+law b h = theory.serving.ticked (demands b.now b.jobs) (sorted-demands b.now b.jobs h.well_formed.in_order) (sound-demands horizon b.now b.jobs theory.ticks h.well_formed.jobs_open)
 
 pub lawful_after : (b : View) → Lawful b → b.now ≢ last_tick → Lawful (after_tick b)
 lawful_after b h more =
@@ -94,20 +94,22 @@ lawful_after b h more =
     let js = jobs_then b.now u b.jobs in
     let t = law b h in
     record {
-      in_time = omega (arith, h.in_time);
-      top_positive = h.top_positive;
-      top_within = h.top_within;
-      few = omega (
-        arith,
-        h.few,
-        length-filter has_work js,
-        count_by-le-length has_work js,
-        length-map (shares b.now u b.jobs) worked,
-        length-zip b.jobs (serve u (demands b.now b.jobs)),
-      );
-      tickets_differ = AllPairs-filter (λ j k. j.ticket ≢ k.ticket) has_work js (pairs_kept (λ j k. j.ticket ≢ k.ticket) (λ j k g h r. r) b.now u b.jobs h.tickets_differ);
-      in_order = AllPairs-filter (λ j k. is_before j k ≡ true) has_work js (pairs_kept (λ j k. is_before j k ≡ true) (λ j k g h r. r) b.now u b.jobs h.in_order);
-      jobs_open = all_passed has_work (OpenAt (b.now + 1)) js (open_after b.now u b.jobs h.jobs_open t.in_time);
+      well_formed = record {
+        in_time = omega (arith, h.well_formed.in_time);
+        top_positive = h.well_formed.top_positive;
+        top_within = h.well_formed.top_within;
+        few = omega (
+          arith,
+          h.well_formed.few,
+          length-filter has_work js,
+          count_by-le-length has_work js,
+          length-map (shares b.now u b.jobs) worked,
+          length-zip b.jobs (serve u (demands b.now b.jobs)),
+        );
+        tickets_differ = AllPairs-filter (λ j k. j.ticket ≢ k.ticket) has_work js (pairs_kept (λ j k. j.ticket ≢ k.ticket) (λ j k g h r. r) b.now u b.jobs h.well_formed.tickets_differ);
+        in_order = AllPairs-filter (λ j k. is_before j k ≡ true) has_work js (pairs_kept (λ j k. is_before j k ≡ true) (λ j k g h r. r) b.now u b.jobs h.well_formed.in_order);
+        jobs_open = all_passed has_work (OpenAt (b.now + 1)) js (open_after b.now u b.jobs h.well_formed.jobs_open t.in_time);
+      };
       none_overloaded = λ x y lt le.
           omega (
             arith,

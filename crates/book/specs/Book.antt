@@ -31,8 +31,8 @@ pub record OpenAt (now : ℕ) (j : Job) : Type 0 where
 abbrev pub InOrder : List Job → Type 0
 InOrder jobs = AllPairs (λ j k. is_before j k ≡ true) jobs
 
--- a lawful book
-pub record Lawful (b : View) : Type 0 where
+-- a well-formed book: lawful, but for overload
+pub record WellFormed (b : View) : Type 0 where
   pub in_time : b.now ≤ last_tick
   pub top_positive : 1 ≤ b.top
   pub top_within : b.top ≤ 255
@@ -40,6 +40,10 @@ pub record Lawful (b : View) : Type 0 where
   pub tickets_differ : AllPairs (λ j k. j.ticket ≢ k.ticket) b.jobs
   pub in_order : InOrder b.jobs
   pub jobs_open : All (OpenAt b.now) b.jobs
+
+-- a lawful book
+pub record Lawful (b : View) : Type 0 where
+  pub well_formed : WellFormed b
   pub none_overloaded : NoneOverloaded horizon (demands b.now b.jobs) b.top
 
 -- an empty book

@@ -13,7 +13,7 @@ use Rattle.book.proofs.Planning.{written, in_force_first}
 use Rattle.book.proofs.book.Book.settings.Goals as goal
 
 pub settings_in_force-settings-requires-clause-in_order : goal.settings_in_force-settings-requires-clause-in_order
-settings_in_force-settings-requires-clause-in_order c = subst InOrder (sym c.jobs.ensures.jobs) c.self.invariant.in_order
+settings_in_force-settings-requires-clause-in_order c = subst InOrder (sym c.jobs.ensures.jobs) c.self.invariant.well_formed.in_order
 
 pub overflow_cast-list : goal.overflow_cast-list
 overflow_cast-list c =
@@ -21,7 +21,7 @@ overflow_cast-list c =
     let lt : c.loop-tick.tick < horizon = omega (arith, theory.ticks) in
     let same = c.settings_in_force-settings.ensures.settings c.loop-tick.tick lt in
     let few = theory.standing.within (demands now c.jobs.result.now) c.self.inside.top (subst (λ js. NoneOverloaded horizon (demands now js) c.self.inside.top) (sym c.jobs.ensures.jobs) c.self.invariant.none_overloaded) c.loop-tick.tick lt in
-    omega (arith, c.self.invariant.top_within)
+    omega (arith, c.self.invariant.well_formed.top_within)
 
 pub loop-tick-preserved : goal.loop-tick-preserved
 loop-tick-preserved c =
@@ -51,5 +51,5 @@ returns-clause-in_force c =
     let long : length xs ≡ 256 = search rules in
     let done : c.loop-tick.tick ≡ 256 = omega arith in
     let all : c.loop-tick.list ≡ xs ++ drop 256 list = c.loop-tick.invariant ∙ ap (paste list 0 xs) done ∙ paste_all list 0 xs 256 (sym long) in
-    rw (← c.self.view_is, all) (in_force_first b.now b.jobs xs (drop 256 list) long c.self.invariant.jobs_open
+    rw (← c.self.view_is, all) (in_force_first b.now b.jobs xs (drop 256 list) long c.self.invariant.well_formed.jobs_open
     (subst (λ js. InForce horizon (demands b.now js) (listed xs)) c.jobs.ensures.jobs c.settings_in_force-settings.ensures.in_force))

@@ -15,7 +15,7 @@ overflow_cast-setting c =
     let b : View = record { now = c.self.inside.tick; top = c.self.inside.top; jobs = c.self.inside.jobs } in
     let lt : 0 < horizon = omega (arith, theory.ticks) in
     let setting : get_or c.settings_in_force-settings.result 0 0 ≡ settings_of b 0 = c.settings_in_force-settings.ensures.settings 0 lt ∙ ap (λ js. settings_of (with_jobs js b) 0) c.jobs.ensures.jobs in
-    omega (arith, setting, theory.standing.within _ b.top c.self.invariant.none_overloaded 0 lt, c.self.invariant.top_within)
+    omega (arith, setting, theory.standing.within _ b.top c.self.invariant.none_overloaded 0 lt, c.self.invariant.well_formed.top_within)
 
 pub invariant_of-self : goal.invariant_of-self
 invariant_of-self c =
