@@ -10,3 +10,8 @@ pub mod Offers
 pub mod Settings
 pub mod Ready
 pub mod Ticks
+pub mod Blocks
+pub mod Bills
+-- the image of a book
+pub mod Images
+pub mod Loads

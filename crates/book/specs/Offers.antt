@@ -4,7 +4,7 @@ use Rattle.schedule.specs.InForce.{horizon}
 use Rattle.schedule.specs.Sharing.{Does}
 use Rattle.book.specs.declared.job.Job.{Job}
 use Rattle.book.specs.declared.fault.BookFault.{BookFault}
-use Rattle.book.specs.declared.fault.BookFault.TheVariants.{Read, Field, TicketOpen, Full, Overload, NotOpen, Short, LastTick}
+use Rattle.book.specs.declared.fault.BookFault.TheVariants.{Read, Field, TicketOpen, Full, Overload, NotOpen, Short, LastTick, Image}
 use Rattle.book.specs.Demands.{demands}
 use Rattle.book.specs.Book.{View}
 use Rattle.book.specs.Calls.{early_fault, counted}
@@ -24,6 +24,7 @@ IsOverload (Err (Overload start end work)) = Unit {0}
 IsOverload (Err (NotOpen ticket)) = ⊥
 IsOverload (Err (Short needed)) = ⊥
 IsOverload (Err (LastTick now)) = ⊥
+IsOverload (Err (Image number)) = ⊥
 
 -- an offer that passes its other checks is accepted just where some list of settings up to the top does the open work and the offered work,
 -- and refused for overload just where none does

@@ -6,7 +6,7 @@ use Rattle.refusal.specs.declared.Refusal.{Refusal}
 use Rattle.refusal.specs.Told.{refused_by}
 use Rattle.layout.specs.Refusals.{read_refusal}
 use Rattle.book.specs.declared.fault.BookFault.{BookFault}
-use Rattle.book.specs.declared.fault.BookFault.TheVariants.{Read, Field, TicketOpen, Full, Overload, NotOpen, Short, LastTick}
+use Rattle.book.specs.declared.fault.BookFault.TheVariants.{Read, Field, TicketOpen, Full, Overload, NotOpen, Short, LastTick, Image}
 use Rattle.book.specs.declared.fault.BookField.{BookField}
 use Rattle.book.specs.declared.fault.BookField.TheVariants.{Ticket, Arrival, Deadline, Work, Start, Top}
 
@@ -28,3 +28,4 @@ book_refusal (Overload start end work) = record { layer = Book; number = 8; valu
 book_refusal (NotOpen ticket) = refused_by Book 9 ticket
 book_refusal (Short needed) = refused_by Book 10 needed
 book_refusal (LastTick now) = refused_by Book 11 now
+book_refusal (Image number) = refused_by Book 13 number

@@ -36,6 +36,8 @@ pub enum BookFault {
     Short { needed: usize },
     /// Now is the last tick of all.
     LastTick { now: u64 },
+    /// No lawful image, overload allowed, has the record after those before it; or overload alone is wrong, which the number after the last record says.
+    Image { number: usize },
 }
 
 impl From<ReadFault> for BookFault {
@@ -65,6 +67,7 @@ impl From<BookFault> for Refusal {
             BookFault::NotOpen { ticket } => (9, u64::from(ticket)),
             BookFault::Short { needed } => (10, needed as u64),
             BookFault::LastTick { now } => (11, now),
+            BookFault::Image { number } => (13, number as u64),
         };
         Refusal::with_value(Layer::Book, number, value)
     }

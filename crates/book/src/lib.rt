@@ -12,6 +12,7 @@
 //! A refused call leaves the book as it was, and nothing is taken from a heap of memory.
 #![tactic(auto)]
 
+mod blocks;
 mod book;
 mod fault;
 mod job;
@@ -20,6 +21,7 @@ mod settings;
 mod table;
 mod tick;
 
+pub use blocks::Block;
 pub use book::Book;
 pub use fault::{BookFault, BookField};
 pub use job::Job;

@@ -10,9 +10,13 @@ use Rattle.layout.specs.Label.{is_label}
 use Rattle.layout.specs.Layout.{kind_byte}
 use Rattle.layout.specs.BigEndian.{bytes}
 
--- 24 bytes with these fields
+-- 24 bytes: byte 0, the numbers, and the last six bytes
+abbrev pub fields_out : ℕ → (ticket arrival deadline work : ℕ) (last : List ℕ) → List ℕ
+fields_out first t a d w last = first ∷ 0 ∷ (bytes 2 t ++ (bytes 6 a ++ (bytes 6 d ++ (bytes 2 w ++ last))))
+
+-- 24 bytes of a kind with these fields
 abbrev pub laid_out : Kind → (ticket arrival deadline work : ℕ) (label : List ℕ) → List ℕ
-laid_out k t a d w l = kind_byte k ∷ 0 ∷ (bytes 2 t ++ (bytes 6 a ++ (bytes 6 d ++ (bytes 2 w ++ l))))
+laid_out k t a d w l = fields_out (kind_byte k) t a d w l
 
 -- the label of a strike or a tick
 abbrev pub blank : List ℕ

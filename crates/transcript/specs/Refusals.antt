@@ -3,7 +3,7 @@ use Rattle.std.specs.Prelude.{Bool, true, false}
 use Rattle.refusal.specs.declared.Refusal.{Refusal}
 use Rattle.layout.specs.declared.fault.ReadFault.TheVariants.{Cut, UnknownKind, Forbidden}
 use Rattle.book.specs.declared.fault.BookFault.{BookFault}
-use Rattle.book.specs.declared.fault.BookFault.TheVariants.{Read, Field, TicketOpen, Full, Overload, NotOpen, Short, LastTick}
+use Rattle.book.specs.declared.fault.BookFault.TheVariants.{Read, Field, TicketOpen, Full, Overload, NotOpen, Short, LastTick, Image}
 use Rattle.book.specs.Refusals.{book_refusal}
 use Rattle.transcript.specs.declared.fault.BenchFault.{BenchFault}
 use Rattle.transcript.specs.declared.fault.BenchFault.TheVariants.{Book}
@@ -24,6 +24,7 @@ ends_book (Overload start end work) = false
 ends_book (NotOpen ticket) = false
 ends_book (Short needed) = false
 ends_book (LastTick now) = false
+ends_book (Image number) = false
 
 -- a cut record ends the run
 abbrev pub ends_run : BenchFault → Bool

@@ -1,0 +1,113 @@
+-- The image of a book: 65 records of 24 bytes. What save writes and load accepts.
+use Rattle.std.specs.Prelude.{ℕ, ◌+◌, ◌-◌, ◌*◌, ◌++◌, Bool, ◌&&◌, not, if◌then◌else◌, List, [], ◌∷◌, length, map, take, drop, replicate, take_while, position, Some, None, Option, ◌==◌, nat_le, nat_lt, slice_index, bytes_eq}
+use Rattle.std.specs.List.{range_with_len, flat_map, list_all}
+use Rattle.std.specs.Option.{option_map, option_or}
+use Rattle.layout.specs.BigEndian.{part}
+use Rattle.layout.specs.Layout.{ticket_of, arrival_of, deadline_of, work_of}
+use Rattle.layout.specs.Writing.{fields_out}
+use Rattle.book.specs.declared.job.Job.{Job}
+use Rattle.book.specs.declared.fault.BookFault.{BookFault}
+use Rattle.book.specs.declared.fault.BookFault.TheVariants.{Short, Image}
+use Rattle.book.specs.Jobs.{is_before, is_open}
+use Rattle.book.specs.Book.{View, last_tick}
+use Rattle.book.specs.Calls.{Outcome, answer_of, outcome, overload_in}
+use Rattle.book.specs.Settings.{Listing}
+
+-- the record of now and the top
+abbrev pub clock_record : (now top : ℕ) → List ℕ
+clock_record now top = fields_out 0x43 0 now 0 top (replicate 6 0)
+
+-- the record of an open job
+abbrev pub job_record : Job → List ℕ
+job_record j = fields_out 0x4a j.ticket j.arrival j.deadline j.work (replicate 6 0)
+
+-- a record that stands for no job
+abbrev pub blank_record : List ℕ
+blank_record = replicate 24 0
+
+-- the records of a book: its now and top, then the open jobs in the order of serving, and blank ones for the rest
+abbrev pub image_records : View → List (List ℕ)
+image_records b = clock_record b.now b.top ∷ (map job_record b.jobs ++ replicate (64 - length b.jobs) blank_record)
+
+-- their bytes
+abbrev pub image : View → List ℕ
+image b = flat_map (λ r. r) (image_records b)
+
+-- why an image is not written or read
+abbrev pub length_fault : List ℕ → Option BookFault
+length_fault list = if nat_lt (length list) 1560 then Some (Short 1560) else None
+
+-- save writes the image into the first places of the list, or is refused and leaves it
+abbrev pub saved : View → List ℕ → Listing
+saved b list = record {
+  answer = answer_of (length_fault list);
+  list = if nat_lt (length list) 1560 then list else image b ++ drop 1560 list;
+}
+
+-- the record k of a list
+abbrev pub record_in : List ℕ → ℕ → List ℕ
+record_in list k = part (24 * k) 24 list
+
+-- the job that a record says
+abbrev pub job_in : List ℕ → Job
+job_in r = record { ticket = ticket_of r; arrival = arrival_of r; deadline = deadline_of r; work = work_of r }
+
+-- the records after the first
+abbrev pub later_records : List ℕ → List (List ℕ)
+later_records list = map (record_in list) (range_with_len 1 64)
+
+-- whether a record stands for a job
+abbrev pub is_job_record : List ℕ → Bool
+is_job_record r = slice_index r 0 == 0x4a
+
+-- the book that an image says: its jobs stand in the records up to the first of another kind
+abbrev pub book_in : List ℕ → View
+book_in list = record {
+  now = arrival_of (record_in list 0);
+  top = work_of (record_in list 0);
+  jobs = map job_in (take_while is_job_record (later_records list));
+}
+
+-- whether a job can be open at now (`OpenAt`), as a test
+abbrev pub can_be_open : ℕ → Job → Bool
+can_be_open now j =
+    nat_lt 0 j.ticket && (nat_lt 0 j.work && (nat_lt now j.deadline && (nat_le j.deadline (now + 256) && (nat_le j.deadline last_tick
+    && (nat_lt j.arrival j.deadline && nat_le j.deadline (j.arrival + 256))))))
+
+-- whether a record is that of some now and top
+abbrev pub is_clock : List ℕ → Bool
+is_clock r = bytes_eq r (clock_record (arrival_of r) (work_of r)) && (nat_le 1 (work_of r) && nat_le (work_of r) 255)
+
+-- whether a record can stand after those of the jobs before: it is that of a job that is served after them and can be open besides them
+abbrev pub goes_on : (now : ℕ) (before : List Job) → List ℕ → Bool
+goes_on now before r =
+    let j = job_in r in
+    bytes_eq r (job_record j) && (can_be_open now j && (list_all (λ k. is_before k j) before && not (is_open j.ticket before)))
+
+-- the number of the first record that is not blank, of the records from number k on
+abbrev pub not_blank : (k : ℕ) → List (List ℕ) → Option ℕ
+not_blank k rs = option_map (λ i. k + i) (position (λ r. not (bytes_eq r blank_record)) rs)
+
+-- the number of the first record that is wrong, of the records from number k on, which stand after those of the jobs before:
+-- as long as they go on they are jobs, and the rest has to be blank
+abbrev pub wrong_later : (now : ℕ) (before : List Job) (k : ℕ) → List (List ℕ) → Option ℕ
+wrong_later now before k [] = None
+wrong_later now before k (r ∷ rs) =
+    if goes_on now before r then wrong_later now (before ++ (job_in r ∷ [])) (k + 1) rs else not_blank k (r ∷ rs)
+
+-- the number of the first record of a list that is wrong
+abbrev pub wrong_record : List ℕ → Option ℕ
+wrong_record list =
+    if is_clock (record_in list 0) then wrong_later (arrival_of (record_in list 0)) [] 1 (later_records list) else Some 0
+
+-- an overload is told as the number after the last record
+abbrev pub overload_record : View → Option ℕ
+overload_record b = option_map (λ ab. 65) (overload_in b)
+
+-- why an image is not loaded
+abbrev pub load_fault : List ℕ → Option BookFault
+load_fault list = option_or (length_fault list) (option_map Image (option_or (wrong_record list) (overload_record (book_in list))))
+
+-- load makes the book that of an image
+abbrev pub loaded : View → List ℕ → Outcome
+loaded b list = outcome (load_fault list) b (book_in list)

@@ -1,0 +1,40 @@
+-- What save and load mean: load accepts the images of lawful books, and no others.
+use Rattle.std.specs.Prelude.{◌≡◌, ℕ, ◌+◌, ◌*◌, ◌<◌, ◌↔◌, List, take, Ok, Err, Result, IsOk}
+use Rattle.schedule.specs.InForce.{horizon}
+use Rattle.schedule.specs.Overload.{NoneOverloaded}
+use Rattle.book.specs.declared.fault.BookFault.{BookFault}
+use Rattle.book.specs.declared.fault.BookFault.TheVariants.{Image}
+use Rattle.book.specs.Demands.{demands}
+use Rattle.book.specs.Book.{View, WellFormed, Lawful}
+use Rattle.book.specs.Images.{image, loaded}
+
+-- the first bytes of the list are the image of the book
+abbrev pub Shows : List ℕ → View → Type 0
+Shows list b = take 1560 list ≡ image b
+
+-- some well-formed book has an image with the same first k records as the list
+abbrev pub CanBegin : ℕ → List ℕ → Type 0
+CanBegin k list = (b : View) × WellFormed b × (take (24 * k) list ≡ take (24 * k) (image b))
+
+-- the record k is the first that no image of a well-formed book has after those before it
+pub record FirstWrong (k : ℕ) (list : List ℕ) : Type 0 where
+  pub before : CanBegin k list
+  pub none_with : CanBegin (k + 1) list → ⊥
+
+-- what an answer of load, and the book afterwards, tell of a list that is long enough
+pub record OnlyImages (list : List ℕ) (answer : Result (Unit {0}) BookFault) (after : View) : Type 0 where
+  -- it is accepted just where it shows a lawful book
+  pub accepted : IsOk answer ↔ ((b : View) × Lawful b × Shows list b)
+  -- and the book is that one then
+  pub same : (b : View) → Lawful b → Shows list b → after ≡ b
+  -- the record that a refusal names is the first wrong one
+  pub named : (k : ℕ) → answer ≡ Err (Image k) → k < 65 → FirstWrong k list
+  -- or overload alone is wrong
+  pub overloaded : answer ≡ Err (Image 65) → (b : View) × WellFormed b × Shows list b × (NoneOverloaded horizon (demands b.now b.jobs) b.top → ⊥)
+  -- there is no number after that
+  pub numbered : (k : ℕ) → answer ≡ Err (Image k) → k < 66
+
+-- the list shows the book, and loading it gives the book back, whatever book was there
+pub record LoadsBack (list : List ℕ) (b : View) : Type 0 where
+  pub shows : Shows list b
+  pub back : (before : View) → ((loaded before list).answer ≡ Ok tt) × ((loaded before list).book ≡ b)

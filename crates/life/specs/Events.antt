@@ -1,0 +1,81 @@
+-- The calls that a life is made of, and what they answer.
+use Rattle.std.specs.Prelude.{ℕ, List, [], take, Ok, Err, Result}
+use Rattle.book.specs.declared.job.Job.{Job}
+use Rattle.book.specs.declared.blocks.Block.{Block}
+use Rattle.book.specs.declared.fault.BookFault.{BookFault}
+use Rattle.book.specs.declared.tick.Entry.{Entry}
+use Rattle.book.specs.declared.tick.Served.{Served}
+use Rattle.book.specs.Book.{View}
+use Rattle.book.specs.Calls.{offered, struck}
+use Rattle.book.specs.Settings.{listing}
+use Rattle.book.specs.Ticks.{ticked}
+use Rattle.book.specs.Blocks.{blocked}
+use Rattle.book.specs.Bills.{bill_of}
+use Rattle.book.specs.Images.{saved}
+
+-- a call with its arguments: the list that it brings, as that was, and the draws of the power model
+pub data Call : Type 0 where
+  offer : (job : Job) → Call
+  strike : (ticket : ℕ) → Call
+  tick : (list : List Entry) → Call
+  settings : (list : List ℕ) → Call
+  blocks : (list : List Block) → Call
+  bill : (draws : ℕ → ℕ) → Call
+  save : (list : List ℕ) → Call
+
+-- what a call answers: that it is done, what a tick served, a count or a bill, or why it is refused
+pub data Answer : Type 0 where
+  done : Answer
+  served : (served : Served) → Answer
+  number : (number : ℕ) → Answer
+  refused : (fault : BookFault) → Answer
+
+-- a call with its answer and the entries that it wrote
+pub record Event : Type 0 where
+  pub call : Call
+  pub answer : Answer
+  pub entries : List Entry
+
+-- the answers of the calls as answers of a life
+abbrev pub done_or : Result (Unit {0}) BookFault → Answer
+done_or (Ok u) = done
+done_or (Err fault) = refused fault
+
+abbrev pub served_or : Result Served BookFault → Answer
+served_or (Ok s) = served s
+served_or (Err fault) = refused fault
+
+abbrev pub number_or : Result ℕ BookFault → Answer
+number_or (Ok n) = number n
+number_or (Err fault) = refused fault
+
+-- the entries of a tick, which stand in the first places of its list
+abbrev pub written : Result Served BookFault → List Entry → List Entry
+written (Ok s) list = take s.count list
+written (Err fault) list = []
+
+-- a call that writes no entries
+abbrev pub event : Call → Answer → Event
+event call answer = record { call = call; answer = answer; entries = [] }
+
+-- what a call on a book answers and writes
+abbrev pub event_on : View → Call → Event
+event_on b (offer j) = event (offer j) (done_or (offered b j).answer)
+event_on b (strike t) = event (strike t) (done_or (struck b t).answer)
+event_on b (tick list) =
+    let t = ticked b list in
+    record { call = tick list; answer = served_or t.answer; entries = written t.answer t.list }
+event_on b (settings list) = event (settings list) (done_or (listing b list).answer)
+event_on b (blocks list) = event (blocks list) (number_or (blocked b list).answer)
+event_on b (bill draws) = event (bill draws) (number (bill_of draws b))
+event_on b (save list) = event (save list) (done_or (saved b list).answer)
+
+-- the book that it leaves: questions change none
+abbrev pub book_after : View → Call → View
+book_after b (offer j) = (offered b j).book
+book_after b (strike t) = (struck b t).book
+book_after b (tick list) = (ticked b list).book
+book_after b (settings list) = b
+book_after b (blocks list) = b
+book_after b (bill draws) = b
+book_after b (save list) = b

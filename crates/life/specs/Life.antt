@@ -1,0 +1,41 @@
+-- Lives of a book.
+use Rattle.std.specs.Prelude.{◌≡◌, ℕ, List, [], ◌∷◌, ◌++◌, Ok}
+use Rattle.book.specs.Book.{View}
+use Rattle.book.specs.Calls.{Outcome, opened}
+use Rattle.book.specs.Images.{loaded}
+use Rattle.life.specs.Events.{Event, event_on, book_after}
+use Rattle.life.specs.Tally.{Tally, tally_opened, tally_loaded}
+
+-- how a life begins
+pub data Beginning : Type 0 where
+  opening : (start top : ℕ) → Beginning
+  loading : (list : List ℕ) → Beginning
+
+-- what the beginning answers, and the book that it leaves, where b was there before
+abbrev pub begun : View → Beginning → Outcome
+begun b (opening start top) = opened b start top
+begun b (loading list) = loaded b list
+
+abbrev pub tally_of : Beginning → Tally
+tally_of (opening start top) = tally_opened start top
+tally_of (loading list) = tally_loaded list
+
+-- a life: the book before it, its beginning, and the events since, in their order
+pub record Life : Type 0 where
+  pub before : View
+  pub beginning : Beginning
+  pub events : List Event
+
+-- the events lead from one book to the other: each is what its call answers and writes on the book that it finds
+abbrev pub Leads : View → List Event → View → Type 0
+Leads b [] c = b ≡ c
+Leads b (e ∷ es) c = (e ≡ event_on b e.call) × Leads (book_after b e.call) es c
+
+-- a life, begun by an accepted call, that ends in the book
+pub record EndsIn (life : Life) (b : View) : Type 0 where
+  pub accepted : (begun life.before life.beginning).answer ≡ Ok tt
+  pub leads : Leads (begun life.before life.beginning).book life.events b
+
+-- a life with one event more
+abbrev pub longer : Life → Event → Life
+longer life e = record { before = life.before; beginning = life.beginning; events = life.events ++ (e ∷ []) }
