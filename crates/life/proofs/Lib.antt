@@ -1,0 +1,2 @@
+-- the rows of a tally
+pub mod Rows

@@ -1,0 +1,110 @@
+-- The rows of a tally: which of them are open, and what calls make of them.
+use Rattle.std.proofs.Common.{◌≡◌, ◌≢◌, ℕ, ◌-◌, ◌<◌, ◌≤◌, true, false, not, ◌==◌, inl, inr, List, [], ◌∷◌, ◌∙◌, map, refl, sym, ap, subst, arith}
+use Rattle.std.specs.List.{All, AllPairs}
+use Rattle.std.proofs.lemmas.Bool.{cases_Bool, eqb-true, eqb-false, eq-eqb, ne_eqb, lt-ltb, or_parts}
+use Rattle.std.proofs.lemmas.List.Elements.{All-nil, All-head, All-tail, All-cons, All-map, All-filter, All-weaker}
+use Rattle.book.specs.declared.job.Job.{Job}
+use Rattle.book.specs.Jobs.{is_open as is_open_job, without}
+use Rattle.book.proofs.Jobs.{AllPairs-head, AllPairs-tail}
+use Rattle.life.specs.Tally.{Row, is_open, job_left, open_jobs, has_ticket, change_last, row_of, marked}
+
+-- only the last row with a ticket may be open
+abbrev pub Newest : List Row → Type 0
+Newest [] = Unit {0}
+Newest (r ∷ rs) = All (λ j. j.ticket ≢ r.ticket) (open_jobs rs) × Newest rs
+
+-- no row has had more than its work
+abbrev pub Within : List Row → Type 0
+Within rows = All (λ r. r.had ≤ r.work) rows
+
+-- and so it is with one row changed, where the change keeps that
+within_changed : (k : ℕ) (change : Row → Row) (rows : List Row) → ((r : Row) → r.had ≤ r.work → (change r).had ≤ (change r).work) → Within rows → Within (change_last k change rows)
+within_changed k change [] keeps within = All-nil (λ (r : Row). r.had ≤ r.work)
+within_changed k change (r ∷ rs) keeps within =
+    let here = All-head (λ (q : Row). q.had ≤ q.work) r rs within in
+    let behind = All-tail (λ (q : Row). q.had ≤ q.work) r rs within in
+    elim (cases_Bool (has_ticket k r)) [
+      | inl t ↦ rw t (All-cons (λ (q : Row). q.had ≤ q.work) (change r) rs (keeps r here) behind)
+      | inr t ↦ rw t (All-cons (λ (q : Row). q.had ≤ q.work) r (change_last k change rs) here (within_changed k change rs keeps behind))
+    ]
+
+-- no job has the ticket
+without_none : (k : ℕ) (js : List Job) → All (λ j. j.ticket ≢ k) js → without k js ≡ js
+without_none k [] all = refl
+without_none k (j ∷ js) all =
+    let here = All-head (λ j. j.ticket ≢ k) j js all in
+    let rest = without_none k js (All-tail (λ j. j.ticket ≢ k) j js all) in
+    rw (ne_eqb j.ticket k here, rest)
+
+-- the open job of the last row with the ticket, if it is open, is the only one with it
+without_last : (k : ℕ) (r : Row) (rs : List Row) → r.ticket ≡ k → All (λ j. j.ticket ≢ r.ticket) (open_jobs rs) → without k (open_jobs (r ∷ rs)) ≡ open_jobs rs
+without_last k r rs same others =
+    let rest = without_none k (open_jobs rs) (subst (λ t. All (λ j. j.ticket ≢ t) (open_jobs rs)) same others) in
+    elim (cases_Bool (is_open r)) [ inl t ↦ rw (t, eq-eqb r.ticket k same) rest | inr t ↦ rw t rest ]
+
+-- a row with another ticket is left
+without_other : (k : ℕ) (r : Row) (rs qs : List Row) → has_ticket k r ≡ false → open_jobs qs ≡ without k (open_jobs rs) → open_jobs (r ∷ qs) ≡ without k (open_jobs (r ∷ rs))
+without_other k r rs qs other rest = elim (cases_Bool (is_open r)) [ inl t ↦ rw (t, other) (ap (λ js. job_left r ∷ js) rest) | inr t ↦ rw t rest ]
+
+-- a strike closes the open job of the ticket
+pub struck_open : (k : ℕ) (rows : List Row) → Newest rows → open_jobs (change_last k marked rows) ≡ without k (open_jobs rows)
+struck_open k [] newest = refl
+struck_open k (r ∷ rs) newest = elim (cases_Bool (has_ticket k r)) [
+  | inl t ↦ rw t (sym (without_last k r rs (eqb-true r.ticket k t) newest.0))
+  | inr t ↦ rw t (without_other k r rs (change_last k marked rs) t (struck_open k rs newest.1))
+]
+
+-- and leaves only the last row with a ticket open
+pub struck_newest : (k : ℕ) (rows : List Row) → Newest rows → Newest (change_last k marked rows)
+struck_newest k [] newest = tt
+struck_newest k (r ∷ rs) newest = elim (cases_Bool (has_ticket k r)) [
+  | inl t ↦ rw t newest
+  | inr t ↦
+      rw t (
+        rw (struck_open k rs newest.1) (All-filter (λ (j : Job). not (j.ticket == k)) (λ j. j.ticket ≢ r.ticket) (open_jobs rs) newest.0),
+        struck_newest k rs newest.1,
+      )
+]
+
+-- and gives no units
+pub struck_within : (k : ℕ) (rows : List Row) → Within rows → Within (change_last k marked rows)
+struck_within k rows within = within_changed k marked rows (λ r le. le) within
+
+-- no open job has the ticket where none is found
+not_open : (t : ℕ) (js : List Job) → is_open_job t js ≡ false → All (λ j. j.ticket ≢ t) js
+not_open t [] none = All-nil (λ (j : Job). j.ticket ≢ t)
+not_open t (j ∷ js) none =
+    let parts = or_parts (j.ticket == t) (is_open_job t js) none in
+    All-cons (λ j. j.ticket ≢ t) j js (eqb-false j.ticket t parts.0) (not_open t js parts.1)
+
+-- a new row, where no open job has its ticket
+pub newest_new : (j : Job) (rows : List Row) → is_open_job j.ticket (open_jobs rows) ≡ false → Newest rows → Newest (row_of j ∷ rows)
+newest_new j rows none newest = (not_open j.ticket (open_jobs rows) none, newest)
+
+-- it has had nothing
+job_new : (j : Job) → job_left (row_of j) ≡ j
+job_new j = let e : j.work - 0 ≡ j.work = omega arith in λ i. record { ticket = j.ticket; arrival = j.arrival; deadline = j.deadline; work = e i }
+
+-- so its job is the one that was offered
+pub open_new : (j : Job) (rows : List Row) → 0 < j.work → open_jobs (row_of j ∷ rows) ≡ j ∷ open_jobs rows
+open_new j rows some = rw (lt-ltb 0 j.work some) (ap (λ k. k ∷ open_jobs rows) (job_new j))
+
+-- the rows of a loaded book: their open jobs are its jobs
+pub loaded_open : (jobs : List Job) → All (λ j. 0 < j.work) jobs → open_jobs (map row_of jobs) ≡ jobs
+loaded_open [] all = refl
+loaded_open (j ∷ js) all =
+    open_new j (map row_of js) (All-head (λ j. 0 < j.work) j js all) ∙ ap (λ ks. j ∷ ks) (loaded_open js (All-tail (λ j. 0 < j.work) j js all))
+
+-- whose tickets differ
+pub loaded_newest : (jobs : List Job) → All (λ j. 0 < j.work) jobs → AllPairs (λ j k. j.ticket ≢ k.ticket) jobs → Newest (map row_of jobs)
+loaded_newest [] all differ = tt
+loaded_newest (j ∷ js) all differ =
+    let behind = All-tail (λ j. 0 < j.work) j js all in
+    let others = AllPairs-head (λ j k. j.ticket ≢ k.ticket) j js differ in (
+      rw (loaded_open js behind) (All-weaker (λ k. j.ticket ≢ k.ticket) (λ k. k.ticket ≢ j.ticket) (λ k ne e. ne (sym e)) js others),
+      loaded_newest js behind (AllPairs-tail (λ j k. j.ticket ≢ k.ticket) j js differ),
+    )
+
+-- and which have had nothing
+pub loaded_within : (jobs : List Job) → Within (map row_of jobs)
+loaded_within jobs = All-map (λ r. r.had ≤ r.work) row_of jobs (λ k d lt. omega arith)
