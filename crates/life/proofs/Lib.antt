@@ -1,2 +1,6 @@
 -- the rows of a tally
 pub mod Rows
+-- lists in another order
+pub mod Reordering
+-- the jobs after the entries of a tick
+pub mod Entries
