@@ -2,5 +2,6 @@
 pub mod Rows
 -- lists in another order
 pub mod Reordering
--- the jobs after the entries of a tick
+-- the jobs and the rows after the entries of a tick
 pub mod Entries
+pub mod Feeding
