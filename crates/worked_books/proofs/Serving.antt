@@ -1,0 +1,20 @@
+-- What a tick serves, from the first setting in force and the shares at that setting.
+use Rattle.std.proofs.Common.{◌≡◌, ℕ, ◌==◌, false, List, length, drop, Ok, ltb, ◌∙◌, ap, sym, refl, arith}
+use Rattle.std.proofs.Math.Seq.{take-append_seam}
+use Rattle.book.specs.declared.tick.Entry.{Entry}
+use Rattle.book.specs.Book.{View, last_tick}
+use Rattle.book.specs.Settings.{settings_of}
+use Rattle.book.specs.Ticks.{shares, shares_of, entries, ticked}
+use Rattle.worked_books.specs.Words.{Serves}
+
+pub serves : (b : View) (setting : ℕ) (es : List Entry) → (b.now == last_tick) ≡ false → settings_of b 0 ≡ setting
+    → entries (shares b.now setting b.jobs) ≡ es → Serves b setting es
+serves b setting es more first at_setting = record {
+  first = first;
+  shared = shared;
+  answer = λ list enough. rw (enough, more) (λ i. Ok (record { setting = first i; count = length (shared i) }));
+  written = λ list enough. rw (enough, more, shared) (take-append_seam es (drop (length es) list));
+}
+  where
+    shared : entries (shares_of b) ≡ es
+    shared = ap (λ u. entries (shares b.now u b.jobs)) first ∙ at_setting

@@ -1,0 +1,4 @@
+-- how a worked book is told
+pub mod Words
+-- the worked books
+pub mod WorkedBooks

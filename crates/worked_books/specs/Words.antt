@@ -1,0 +1,64 @@
+-- How a worked book is told: by calls from a new book on, and by what further calls answer then.
+use Rattle.std.specs.Prelude.{◌≡◌, ℕ, List, [], ◌∷◌, length, take, Ok, Err}
+use Rattle.refusal.specs.declared.Layer.TheVariants.{Book, Power}
+use Rattle.refusal.specs.declared.Values.TheVariants.{One, Three}
+use Rattle.schedule.specs.InForce.{horizon, Same}
+use Rattle.schedule.specs.Certificate.{listed}
+use Rattle.power.specs.declared.fault.PowerFault.TheVariants.{Broken}
+use Rattle.power.specs.Loading.{load_answer}
+use Rattle.power.specs.Refusals.{power_refusal}
+use Rattle.book.specs.declared.job.Job.{Job}
+use Rattle.book.specs.declared.blocks.Block.{Block}
+use Rattle.book.specs.declared.fault.BookFault.TheVariants.{Overload}
+use Rattle.book.specs.declared.tick.Entry.{Entry}
+use Rattle.book.specs.Refusals.{book_refusal}
+use Rattle.book.specs.Book.{View, empty_book}
+use Rattle.book.specs.Calls.{opened, offered}
+use Rattle.book.specs.Settings.{settings_of}
+use Rattle.book.specs.Ticks.{shares_of, entries, ticked}
+
+-- a job by its ticket, its window [arrival, deadline) and its work
+abbrev pub job : (ticket arrival deadline work : ℕ) → Job
+job ticket arrival deadline work = record { ticket = ticket; arrival = arrival; deadline = deadline; work = work }
+
+-- a new book, opened at 0 with the top
+abbrev pub opened_at_0 : ℕ → View
+opened_at_0 top = (opened (empty_book 0 1) 0 top).book
+
+-- the book after an offer of each of the jobs
+abbrev pub after_offers : View → List Job → View
+after_offers b [] = b
+after_offers b (j ∷ js) = after_offers (offered b j).book js
+
+-- each of these offers is accepted
+abbrev pub AllAccepted : View → List Job → Type 0
+AllAccepted b [] = Unit {0}
+AllAccepted b (j ∷ js) = ((offered b j).answer ≡ Ok tt) × AllAccepted (offered b j).book js
+
+-- a new book is opened at 0 with the top, each offer is accepted, and so much is said of the book then
+pub record Worked (top : ℕ) (jobs : List Job) (Says : View → Type 0) : Type 0 where
+  pub opens : (opened (empty_book 0 1) 0 top).answer ≡ Ok tt
+  pub accepts : AllAccepted (opened_at_0 top) jobs
+  pub says : Says (after_offers (opened_at_0 top) jobs)
+
+-- the settings in force are xs, and 0 after them
+abbrev pub Sets : View → List ℕ → Type 0
+Sets b xs = Same horizon (settings_of b) (listed xs)
+
+-- a tick at the setting makes the entries es, and is answered with the setting and their number
+pub record Serves (b : View) (setting : ℕ) (es : List Entry) : Type 0 where
+  pub first : settings_of b 0 ≡ setting
+  pub shared : entries (shares_of b) ≡ es
+  pub answer : (list : List Entry) → length list ≡ 64 → (ticked b list).answer ≡ Ok (record { setting = setting; count = length es })
+  pub written : (list : List Entry) → length list ≡ 64 → take (length es) (ticked b list).list ≡ es
+
+-- an offer of the job is refused with the number 8, as the interval from start to end is overloaded by the work, and leaves the book as it was
+pub record Overloads (b : View) (j : Job) (start end work : ℕ) : Type 0 where
+  pub answer : (offered b j).answer ≡ Err (Overload start end work)
+  pub number : book_refusal (Overload start end work) ≡ record { layer = Book; number = 8; values = Three start end work }
+  pub unchanged : (offered b j).book ≡ b
+
+-- a list of draws is refused with the number 12, as it breaks a law first at the setting
+pub record Breaks (draws : List ℕ) (setting : ℕ) : Type 0 where
+  pub answer : load_answer draws ≡ Err (Broken setting)
+  pub number : power_refusal (Broken setting) ≡ record { layer = Power; number = 12; values = One setting }

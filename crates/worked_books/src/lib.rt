@@ -1,0 +1,16 @@
+//! Worked books: eight small cases with what the calls answer for each, by numbers.
+//!
+//! The table stands in specs/WorkedBooks.antt. It is proved of the definitions that the contracts of the calls cite, so it is what the code answers too.
+#![tactic(auto)]
+
+ghost use Rattle.std.specs.Prelude.{◌≡◌};
+ghost use Rattle.worked_books.specs.WorkedBooks.{WorkedBooks};
+
+/// The number of worked cases. Its contract holds the whole table, so that no entry can go missing.
+#[tactic(auto, using(crate::proofs::Worked::all_worked))]
+pub fn worked_books() -> usize
+    ensures count { result ≡ 8 }
+    ensures books { WorkedBooks }
+{
+    8
+}
