@@ -1,5 +1,5 @@
 -- A bill is that of any settings that are the same.
-use Rattle.std.proofs.Common.{◌≡◌, ℕ, ◌∙◌, ap}
+use Rattle.std.proofs.Common.{◌≡◌, ℕ, ap}
 use Rattle.schedule.specs.InForce.{horizon, Same}
 use Rattle.schedule.specs.Draws.{drawn}
 use Rattle.schedule.proofs.SumsLaws.{upto_same}

@@ -1,9 +1,9 @@
 -- Books made by offers, from the faults of the offers one by one.
-use Rattle.std.proofs.Common.{◌≡◌, ℕ, List, [], ◌∷◌, Some, None, Ok, ◌∙◌, ap, subst, sym, refl}
+use Rattle.std.proofs.Common.{◌≡◌, ℕ, List, [], ◌∷◌, Some, None, ◌∙◌, ap, subst, sym, refl}
 use Rattle.book.specs.declared.job.Job.{Job}
 use Rattle.book.specs.declared.fault.BookFault.TheVariants.{Overload}
 use Rattle.book.specs.Book.{View, empty_book}
-use Rattle.book.specs.Calls.{opened, open_fault, outcome, offer_fault, counted, offered}
+use Rattle.book.specs.Calls.{open_fault, outcome, offer_fault, counted}
 use Rattle.worked_books.specs.Words.{opened_at_0, after_offers, AllAccepted, Worked, Overloads}
 
 -- the book with all of the jobs counted as open

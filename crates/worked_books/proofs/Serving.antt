@@ -1,10 +1,10 @@
 -- What a tick serves, from the first setting in force and the shares at that setting.
-use Rattle.std.proofs.Common.{◌≡◌, ℕ, ◌==◌, false, List, length, drop, Ok, ltb, ◌∙◌, ap, sym, refl, arith}
+use Rattle.std.proofs.Common.{◌≡◌, ℕ, ◌==◌, false, List, length, drop, Ok, ◌∙◌, ap}
 use Rattle.std.proofs.Math.Seq.{take-append_seam}
 use Rattle.book.specs.declared.tick.Entry.{Entry}
 use Rattle.book.specs.Book.{View, last_tick}
 use Rattle.book.specs.Settings.{settings_of}
-use Rattle.book.specs.Ticks.{shares, shares_of, entries, ticked}
+use Rattle.book.specs.Ticks.{shares, shares_of, entries}
 use Rattle.worked_books.specs.Words.{Serves}
 
 pub serves : (b : View) (setting : ℕ) (es : List Entry) → (b.now == last_tick) ≡ false → settings_of b 0 ≡ setting

@@ -38,11 +38,11 @@ same_deadline =
 
 low_top : LowTop
 unfolding horizon
-low_top = worked _ _ _ refl (refl, tt) (overloads _ _ 0 1 4 refl)
+low_top = worked _ _ _ refl (refl, tt) (overloads _ _ _ _ _ refl)
 
 together : Together
 unfolding horizon
-together = worked _ _ _ refl (refl, tt) (overloads _ _ 0 4 18 refl)
+together = worked _ _ _ refl (refl, tt) (overloads _ _ _ _ _ refl)
 
 full : Full
 unfolding horizon
@@ -50,7 +50,7 @@ full = worked _ _ _ refl (refl, tt) (theory.computing.even 255)
 
 too_full : TooFull
 unfolding horizon
-too_full = worked _ _ _ refl tt (overloads _ _ 0 256 65535 refl)
+too_full = worked _ _ _ refl tt (overloads _ _ _ _ _ refl)
 
 models : Models
 unfolding first_break

@@ -8,7 +8,6 @@ use Rattle.power.specs.declared.fault.PowerFault.TheVariants.{Broken}
 use Rattle.power.specs.Loading.{load_answer}
 use Rattle.power.specs.Refusals.{power_refusal}
 use Rattle.book.specs.declared.job.Job.{Job}
-use Rattle.book.specs.declared.blocks.Block.{Block}
 use Rattle.book.specs.declared.fault.BookFault.TheVariants.{Overload}
 use Rattle.book.specs.declared.tick.Entry.{Entry}
 use Rattle.book.specs.Refusals.{book_refusal}

@@ -1,5 +1,5 @@
 -- The worked books. Each begins with now 0. [a, d) w is a job with arrival a, deadline d and work w.
-use Rattle.std.specs.Prelude.{◌≡◌, ℕ, List, [], ◌∷◌, replicate}
+use Rattle.std.specs.Prelude.{◌≡◌, [], ◌∷◌, replicate}
 use Rattle.schedule.specs.InForce.{horizon, Same}
 use Rattle.power.specs.Draws.{cube_draw, floor_draw}
 use Rattle.book.specs.Settings.{settings_of}
