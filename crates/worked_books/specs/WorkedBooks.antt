@@ -27,10 +27,11 @@ Nested = Worked 4 (job 1 0 10 4 ∷ job 2 4 6 6 ∷ []) (λ b.
 abbrev pub Even : Type 0
 Even = Worked 4 (job 1 2 3 1 ∷ job 2 0 3 2 ∷ []) (λ b. Sets b (1 ∷ 1 ∷ 1 ∷ []))
 
--- 5. [0, 1) 2 twice: with the top 4 the lesser ticket is served first, and with the top 3 the second offer is refused
+-- 5. [0, 1) 2 twice: with the top 4 the lesser ticket is served first
 abbrev pub SameDeadline : Type 0
 SameDeadline = Worked 4 (job 1 0 1 2 ∷ job 2 0 1 2 ∷ []) (λ b. Serves b 4 (record { ticket = 1; units = 2 } ∷ record { ticket = 2; units = 2 } ∷ []))
 
+-- and with the top 3 the second offer is refused
 abbrev pub LowTop : Type 0
 LowTop = Worked 3 (job 1 0 1 2 ∷ []) (λ b. Overloads b (job 2 0 1 2) 0 1 4)
 
@@ -38,10 +39,11 @@ LowTop = Worked 3 (job 1 0 1 2 ∷ []) (λ b. Overloads b (job 2 0 1 2) 0 1 4)
 abbrev pub Together : Type 0
 Together = Worked 4 (job 1 0 4 14 ∷ []) (λ b. Overloads b (job 2 2 4 4) 0 4 18)
 
--- 7. [0, 256) with as much work as the top 255 can do there, and with the most that a job can bring
+-- 7. [0, 256) with as much work as the top 255 can do there: every setting is 255
 abbrev pub Full : Type 0
 Full = Worked 255 (job 1 0 256 65280 ∷ []) (λ b. Same horizon (settings_of b) (λ _. 255))
 
+-- and with the most work that a job can bring: refused
 abbrev pub TooFull : Type 0
 TooFull = Worked 255 [] (λ b. Overloads b (job 1 0 256 65535) 0 256 65535)
 
