@@ -16,3 +16,5 @@ pub mod Ready
 pub mod Serving
 -- a tick leaves a lawful book
 pub mod Ticking
+-- what an image shows
+pub mod Images

@@ -31,7 +31,7 @@ before-total : (j k : Job) → j.ticket ≢ k.ticket → is_before j k ≡ false
 before-total j k apart p = grind (arith, nat_tests)
 
 -- where no job has the ticket, each has another
-others : (t : ℕ) (js : List Job) → is_open t js ≡ false → (k : ℕ) (d : Job) → k < length js → (get_or js k d).ticket ≢ t
+pub others : (t : ℕ) (js : List Job) → is_open t js ≡ false → (k : ℕ) (d : Job) → k < length js → (get_or js k d).ticket ≢ t
 others t js closed k d lt same = both_ways (is_open t js) closed (list_any_at (has_ticket t) js k d lt (grind (arith, nat_tests)))
 
 -- one job more keeps the order and the tickets apart

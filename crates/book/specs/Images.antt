@@ -1,5 +1,5 @@
 -- The image of a book: 65 records of 24 bytes. What save writes and load accepts.
-use Rattle.std.specs.Prelude.{ℕ, ◌+◌, ◌-◌, ◌*◌, ◌++◌, Bool, ◌&&◌, not, if◌then◌else◌, List, [], ◌∷◌, length, map, take, drop, replicate, take_while, position, Some, None, Option, ◌==◌, nat_le, nat_lt, slice_index, bytes_eq}
+use Rattle.std.specs.Prelude.{ℕ, ◌+◌, ◌-◌, ◌*◌, ◌++◌, Bool, ◌&&◌, not, if◌then◌else◌, List, [], ◌∷◌, length, map, drop, replicate, take_while, position, Some, None, Option, ◌==◌, nat_le, nat_lt, slice_index, bytes_eq}
 use Rattle.std.specs.List.{range_with_len, flat_map, list_all}
 use Rattle.std.specs.Option.{option_map, option_or}
 use Rattle.layout.specs.BigEndian.{part}
