@@ -159,11 +159,15 @@ wellformed_in list e = go (is_clock (record_in list 0)) refl e
     go true t none = wellformed_records (record_in list 0) (later_records list) (omega (arith, length-map-range_with_len (record_in list) 1 64)) t none
     go false t none = absurd (cc)
 
--- a well-formed book in which the search finds no overload
+-- what the search for overload tells of a well-formed book
+pub searched : (b : View) → WellFormed b → Searched horizon (demands b.now b.jobs) b.top (overload_in b)
+searched b w = theory.enough.searched horizon b.top (demands b.now b.jobs) (sound-demands horizon b.now b.jobs theory.ticks w.jobs_open)
+
+-- a well-formed book in which it finds none is lawful
 pub lawful_from : (b : View) → WellFormed b → overload_in b ≡ None → Lawful b
 lawful_from b w none = record {
   well_formed = w;
-  none_overloaded = subst (Searched horizon (demands b.now b.jobs) b.top) none (theory.enough.searched horizon b.top (demands b.now b.jobs) (sound-demands horizon b.now b.jobs theory.ticks w.jobs_open));
+  none_overloaded = subst (Searched horizon (demands b.now b.jobs) b.top) none (searched b w);
 }
 
 or_none : {A : Type 0} (o p : Option A) → option_or o p ≡ None → (o ≡ None) × (p ≡ None)

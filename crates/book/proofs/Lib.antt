@@ -16,5 +16,7 @@ pub mod Ready
 pub mod Serving
 -- a tick leaves a lawful book
 pub mod Ticking
--- what an image shows
+-- images: records of 24 bytes, and the book that they say
+pub mod Records
 pub mod Images
+pub mod Loads

@@ -1,12 +1,22 @@
 -- What save and load mean: load accepts the images of lawful books, and no others.
-use Rattle.std.specs.Prelude.{◌≡◌, ℕ, ◌+◌, ◌*◌, ◌<◌, ◌↔◌, List, take, Ok, Err, Result, IsOk}
+use Rattle.std.specs.Prelude.{◌≡◌, ℕ, ◌+◌, ◌*◌, ◌^◌, ◌<◌, ◌↔◌, List, take, Ok, Err, Result, All, IsOk}
 use Rattle.schedule.specs.InForce.{horizon}
 use Rattle.schedule.specs.Overload.{NoneOverloaded}
+use Rattle.book.specs.declared.job.Job.{Job}
 use Rattle.book.specs.declared.fault.BookFault.{BookFault}
 use Rattle.book.specs.declared.fault.BookFault.TheVariants.{Image}
 use Rattle.book.specs.Demands.{demands}
 use Rattle.book.specs.Book.{View, WellFormed, Lawful}
 use Rattle.book.specs.Images.{image, loaded}
+
+-- a job whose ticket and work have the sizes of the code's fields
+pub record Sized (j : Job) : Type 0 where
+  pub ticket : j.ticket < 2 ^ 16
+  pub work : j.work < 2 ^ 16
+
+-- a book of such jobs
+abbrev pub AllSized : View → Type 0
+AllSized b = All Sized b.jobs
 
 -- the first bytes of the list are the image of the book
 abbrev pub Shows : List ℕ → View → Type 0
@@ -14,7 +24,7 @@ Shows list b = take 1560 list ≡ image b
 
 -- some well-formed book has an image with the same first k records as the list
 abbrev pub CanBegin : ℕ → List ℕ → Type 0
-CanBegin k list = (b : View) × WellFormed b × (take (24 * k) list ≡ take (24 * k) (image b))
+CanBegin k list = (b : View) × WellFormed b × AllSized b × (take (24 * k) list ≡ take (24 * k) (image b))
 
 -- the record k is the first that no image of a well-formed book has after those before it
 pub record FirstWrong (k : ℕ) (list : List ℕ) : Type 0 where
@@ -24,13 +34,13 @@ pub record FirstWrong (k : ℕ) (list : List ℕ) : Type 0 where
 -- what an answer of load, and the book afterwards, tell of a list that is long enough
 pub record OnlyImages (list : List ℕ) (answer : Result (Unit {0}) BookFault) (after : View) : Type 0 where
   -- it is accepted just where it shows a lawful book
-  pub accepted : IsOk answer ↔ ((b : View) × Lawful b × Shows list b)
+  pub accepted : IsOk answer ↔ ((b : View) × Lawful b × AllSized b × Shows list b)
   -- and the book is that one then
-  pub same : (b : View) → Lawful b → Shows list b → after ≡ b
+  pub same : (b : View) → Lawful b → AllSized b → Shows list b → after ≡ b
   -- the record that a refusal names is the first wrong one
   pub named : (k : ℕ) → answer ≡ Err (Image k) → k < 65 → FirstWrong k list
   -- or overload alone is wrong
-  pub overloaded : answer ≡ Err (Image 65) → (b : View) × WellFormed b × Shows list b × (NoneOverloaded horizon (demands b.now b.jobs) b.top → ⊥)
+  pub overloaded : answer ≡ Err (Image 65) → (b : View) × WellFormed b × AllSized b × Shows list b × (NoneOverloaded horizon (demands b.now b.jobs) b.top → ⊥)
   -- there is no number after that
   pub numbered : (k : ℕ) → answer ≡ Err (Image k) → k < 66
 
