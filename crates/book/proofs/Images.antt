@@ -134,23 +134,25 @@ clock_parts r e =
 abbrev pub book_of : List ℕ → List (List ℕ) → View
 book_of r rs = record { now = arrival_of r; top = work_of r; jobs = jobs_of rs }
 
-none_standing : (now : ℕ) → Standing now []
+pub none_standing : (now : ℕ) → Standing now []
 none_standing now = record { apart = λ a b d lt le. absurd (omega arith); order = λ a b d lt le. absurd (omega arith); open_at = λ k d lt. absurd (omega arith) }
 
-pub wellformed_records : (r : List ℕ) (rs : List (List ℕ)) → length rs ≤ 64 → is_clock r ≡ true → wrong_later (arrival_of r) [] 1 rs ≡ None → WellFormed (book_of r rs)
-wellformed_records r rs few t e =
-    let c = clock_parts r t in
-    let s = standing_later (arrival_of r) [] 1 rs (none_standing (arrival_of r)) e in
+-- a record of now and the top, and at most 64 jobs that can be open together
+pub wellformed_jobs : (r : List ℕ) (js : List Job) → length js ≤ 64 → Clocked r → Standing (arrival_of r) js → WellFormed (record { now = arrival_of r; top = work_of r; jobs = js })
+wellformed_jobs r js few c s =
     let now : arrival_of r ≡ number (bytes 6 (arrival_of r)) = ap arrival_of c.form in
     record {
       in_time = omega (arith, now, bytes_fit 6 (arrival_of r));
       top_positive = c.positive;
       top_within = c.within;
-      few = omega (arith, jobs_of_few rs);
+      few = few;
       tickets_differ = s.apart;
       in_order = s.order;
       jobs_open = s.open_at;
     }
+
+pub wellformed_records : (r : List ℕ) (rs : List (List ℕ)) → length rs ≤ 64 → is_clock r ≡ true → wrong_later (arrival_of r) [] 1 rs ≡ None → WellFormed (book_of r rs)
+wellformed_records r rs few t e = wellformed_jobs r (jobs_of rs) (omega (arith, jobs_of_few rs)) (clock_parts r t) (standing_later (arrival_of r) [] 1 rs (none_standing (arrival_of r)) e)
 
 pub wellformed_in : (list : List ℕ) → wrong_record list ≡ None → WellFormed (book_in list)
 wellformed_in list e = go (is_clock (record_in list 0)) refl e

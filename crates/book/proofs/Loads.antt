@@ -1,15 +1,16 @@
 -- Loading accepts the images of lawful books, and no others.
-use Rattle.std.proofs.Common.{◌≡◌, ◌≢◌, ℕ, zero, suc, ◌+◌, ◌-◌, ◌*◌, ◌<◌, ◌≤◌, Bool, true, false, not, ◌&&◌, ◌||◌, cond, inl, inr, List, [], ◌∷◌, ◌++◌, ◌∙◌, map, length, take, get_or, replicate, Option, Some, None, sym, refl, ap, subst, nat_le, nat_lt, arith}
-use Rattle.std.specs.List.{All, AllPairs, list_all, list_any, position, take_while}
+use Rattle.std.proofs.Common.{◌≡◌, ℕ, zero, suc, ◌+◌, ◌-◌, ◌*◌, ◌<◌, ◌≤◌, Bool, true, false, not, ◌&&◌, cond, inl, inr, List, [], ◌∷◌, ◌++◌, ◌∙◌, map, length, take, get_or, replicate, Option, Some, None, sym, refl, ap, subst, nat_le, nat_lt, arith}
+use Rattle.std.specs.List.{All, list_all, list_any, position}
 use Rattle.std.specs.Option.{option_map, option_or}
 use Rattle.std.specs.Str.{bytes_eq}
-use Rattle.std.proofs.lemmas.Bool.{cases_Bool, and_from, or_parts, cond-true, cond-false, not-true, not-false, not_from_false, both_ways, ne_eqb, le-ltb}
+use Rattle.std.proofs.lemmas.Bool.{cases_Bool, and_from, or_parts, cond-true, cond-false, not-false, not_from_false, both_ways, ne_eqb, le-ltb}
 use Rattle.std.proofs.lemmas.Bool.Decides.{nat_tests, Decides-by_and}
-use Rattle.std.proofs.lemmas.List.{append_assoc, append-nil, get_or_at, get_or_append_left, get_or-take, get_or-replicate, get_or_default, take_all, take_at, length-take, length-map, length-append, length-take-le, length-replicate, same_lists}
+use Rattle.std.proofs.lemmas.List.{append_assoc, append-nil, get_or_at, get_or_append_left, get_or-take, get_or-replicate, get_or_default, take_all, take_at, take-replicate, length-take, length-map, length-append, length-take-le, length-replicate, same_lists}
 use Rattle.std.proofs.lemmas.List.Elements.{All-head, All-tail, All-nil, All-cons, All-append, All-map, All-replicate}
 use Rattle.std.proofs.lemmas.List.Folds.{list_any_none}
-use Rattle.std.proofs.lemmas.List.FromFn.{take-map-range_with_len}
+use Rattle.std.proofs.lemmas.List.FromFn.{take-map-range_with_len, length-map-range_with_len}
 use Rattle.std.proofs.lemmas.List.Quantifiers.{position-Some}
+use Rattle.std.proofs.Math.Seq.{take-append-add}
 use Rattle.std.proofs.lemmas.Slice.Eq.{bytes_eq-Decides}
 use Rattle.schedule.specs.InForce.{horizon}
 use Rattle.schedule.specs.Overload.{Searched}
@@ -19,12 +20,12 @@ use Rattle.book.specs.declared.job.Job.{Job}
 use Rattle.book.specs.Jobs.{is_before, has_ticket, is_open}
 use Rattle.book.specs.declared.fault.BookFault.TheVariants.{Short, Image}
 use Rattle.book.specs.Demands.{demands}
-use Rattle.book.specs.Book.{View, OpenAt, WellFormed, Lawful}
+use Rattle.book.specs.Book.{View, OpenAt, WellFormed, Lawful, empty_book}
 use Rattle.book.specs.Calls.{outcome, overload_in}
-use Rattle.book.specs.Images.{is_clock, book_in, wrong_record, length_fault, load_fault, clock_record, image, image_records, record_in, later_records, job_record, blank_record, job_in, is_job_record, can_be_open, goes_on, not_blank, wrong_later}
-use Rattle.book.specs.Loads.{Sized, AllSized, Shows, LoadsBack}
+use Rattle.book.specs.Images.{is_clock, book_in, wrong_record, length_fault, load_fault, loaded, clock_record, image, image_records, record_in, later_records, job_record, blank_record, job_in, can_be_open, goes_on, not_blank, wrong_later}
+use Rattle.book.specs.Loads.{Sized, AllSized, Shows, CanBegin, FirstWrong, OnlyImages, LoadsBack}
 use Rattle.book.proofs.Records.{records, AllWhole, length-joined, begins_records, records_begin}
-use Rattle.book.proofs.Images.{Standing, Follows, bytes_fit, standing_push, goes_on_parts, jobs_of, jobs_of_more, jobs_of_none, book_of, searched}
+use Rattle.book.proofs.Images.{Standing, Follows, bytes_fit, standing_push, goes_on_parts, jobs_of, jobs_of_more, jobs_of_none, book_of, searched, none_standing, clock_parts, wellformed_jobs, wellformed_in, lawful_from}
 
 -- the test of a job that is open
 test_from_open : (now : ℕ) (j : Job) → OpenAt now j → can_be_open now j ≡ true
@@ -59,10 +60,10 @@ follows now before j js s =
           let both : is_before (get_or (before ++ (j ∷ js)) k d) (get_or (before ++ (j ∷ js)) n d) ≡ true = s.order k n d lt low in
           sym (λ i. is_before (left i) (right i)) ∙ both;
       closed = list_any_none (has_ticket j.ticket) before (λ k d lt.
-      let left : get_or (before ++ (j ∷ js)) k d ≡ get_or before k d = get_or_append_left before (j ∷ js) d k lt in
-      let right : get_or (before ++ (j ∷ js)) n d ≡ j = get_or_at before j js d n refl in
-      let apart = s.apart k n d lt low in
-      ne_eqb (get_or before k d).ticket j.ticket (λ e. apart (ap (λ x. x.ticket) left ∙ (e ∙ sym (ap (λ x. x.ticket) right)))));
+          let left : get_or (before ++ (j ∷ js)) k d ≡ get_or before k d = get_or_append_left before (j ∷ js) d k lt in
+          let right : get_or (before ++ (j ∷ js)) n d ≡ j = get_or_at before j js d n refl in
+          let apart = s.apart k n d lt low in
+          ne_eqb (get_or before k d).ticket j.ticket (λ e. apart (ap (λ x. x.ticket) left ∙ (e ∙ sym (ap (λ x. x.ticket) right)))));
     }
 
 all_before_test : (j : Job) (before : List Job) → All (λ k. is_before k j ≡ true) before → list_all (λ k. is_before k j) before ≡ true
@@ -381,3 +382,123 @@ loads_back b rest lawful fit =
       shows = shows;
       back = λ before. (ap (λ f. (outcome f before (book_in (image b ++ rest))).answer) none, ap (λ f. (outcome f before (book_in (image b ++ rest))).book) none ∙ book_shown b w fit (image b ++ rest) shows);
     }
+
+-- records of which none is wrong are those of the book that they say
+records_hold : (r : List ℕ) (rs : List (List ℕ)) → wrong_later (arrival_of r) [] 1 rs ≡ None → (rs ≡ later_of (jobs_of rs) (length rs - length (jobs_of rs))) × All Sized (jobs_of rs)
+records_hold r rs e =
+    let s = shows_all (arrival_of r) [] 1 rs (none_standing (arrival_of r)) e in
+    let same : s.jobs ≡ jobs_of rs = sym (ap jobs_of s.form ∙ jobs_back (arrival_of r) s.jobs (length rs - length s.jobs) s.standing.open_at s.fit) in
+    (subst (λ js. rs ≡ later_of js (length rs - length js)) same s.form, subst (All Sized) same s.fit)
+
+length-later_records : (list : List ℕ) → length (later_records list) ≡ 64
+length-later_records list = length-map-range_with_len (record_in list) 1 64
+
+-- what a list shows in which none is wrong
+shows_book : (list : List ℕ) → wrong_record list ≡ None → Shows list (book_in list) × AllSized (book_in list)
+shows_book list e = go (is_clock (record_in list 0)) refl e
+  where
+    go : (t : Bool) → is_clock (record_in list 0) ≡ t → cond t (wrong_later (arrival_of (record_in list 0)) [] 1 (later_records list)) (Some 0) ≡ None → Shows list (book_in list) × AllSized (book_in list)
+    go false t none = absurd (cc)
+    go true t none =
+        let w = wellformed_in list e in
+        let hold = records_hold (record_in list 0) (later_records list) none in
+        let later = hold.0 ∙ ap (λ n. later_of (jobs_of (later_records list)) (n - length (jobs_of (later_records list)))) (length-later_records list) in
+        (shows_from_holds list (book_in list) w.few (record { clock = (clock_parts (record_in list 0) t).form; later = later }), hold.1)
+
+-- the first i records of jobs and blank ones
+take-later_of : (i n : ℕ) (js : List Job) → length js ≤ i → i ≤ length js + n → take i (later_of js n) ≡ later_of js (i - length js)
+take-later_of i n js low high =
+    let m = i - length js in
+    let at : i ≡ length (map job_record js) + m = omega (arith, length-map js job_record) in
+    ap (λ k. take k (later_of js n)) at ∙ (take-append-add (map job_record js) (replicate n blank_record) m ∙ ap (λ rs. map job_record js ++ rs) (take-replicate m n blank_record (omega arith)))
+
+-- an empty book is well-formed
+empty_wellformed : WellFormed (empty_book 0 1)
+empty_wellformed =
+    let s = none_standing 0 in
+    record { in_time = omega arith; top_positive = omega arith; top_within = omega arith; few = omega arith; tickets_differ = s.apart; in_order = s.order; jobs_open = s.open_at }
+
+-- the first record is the first wrong one where it is not that of a now and a top
+wrong_clock : (list : List ℕ) → is_clock (record_in list 0) ≡ false → FirstWrong 0 list
+wrong_clock list f = record {
+  before = (empty_book 0 1, empty_wellformed, All-nil Sized, refl);
+  none_with = λ can.
+      let parts = begun_parts 0 list can.0 (omega arith) can.1.few can.3 in
+      both_ways (is_clock (record_in list 0)) f (ap is_clock parts.0 ∙ clock_accepted can.0 can.1);
+}
+
+-- a later one is where the search says so
+wrong_at : (list : List ℕ) (i : ℕ) → i < 64 → is_clock (record_in list 0) ≡ true → wrong_later (arrival_of (record_in list 0)) [] 1 (later_records list) ≡ Some (1 + i) → FirstWrong (suc i) list
+wrong_at list i lt t e = record { before = before; none_with = none_with }
+  where
+    before : CanBegin (suc i) list
+    before =
+        let r = record_in list 0 in
+        let c = clock_parts r t in
+        let s = begins (arrival_of r) [] 1 i (later_records list) (none_standing (arrival_of r)) e in
+        let long : length (take i (later_records list)) ≡ i = length-take-le i (later_records list) (omega (arith, length-later_records list)) in
+        let few : length s.jobs ≤ i = omega (arith, s.few, long) in
+        let b : View = record { now = arrival_of r; top = work_of r; jobs = s.jobs } in
+        let later = s.form ∙ (ap (λ n. later_of s.jobs (n - length s.jobs)) long ∙ sym (take-later_of i (64 - length s.jobs) s.jobs few (omega arith))) in
+        (b, wellformed_jobs r s.jobs (omega arith) c s.standing, s.fit, begun_from_parts i list b (omega arith) c.form later)
+
+    none_with : CanBegin (suc i + 1) list → ⊥
+    none_with can =
+        let b = can.0 in
+        let e2 : suc i + 1 ≡ suc (suc i) = omega arith in
+        let parts = begun_parts (suc i) list b (omega arith) can.1.few (subst (λ n. take (24 * n) list ≡ take (24 * n) (image b)) e2 can.3) in
+        let now : arrival_of (record_in list 0) ≡ b.now = ap arrival_of parts.0 ∙ now_back b can.1 in
+        never_wrong b.now [] b.jobs (64 - length b.jobs) 1 i (later_records list) (standing b can.1) can.2 parts.1 (ap (λ n. wrong_later n [] 1 (later_records list)) (sym now) ∙ e)
+
+-- the record that is named is the first wrong one, and one of the 65
+first_wrong : (list : List ℕ) (k : ℕ) → wrong_record list ≡ Some k → FirstWrong k list × (k < 65)
+first_wrong list k e = go (is_clock (record_in list 0)) refl e
+  where
+    go : (t : Bool) → is_clock (record_in list 0) ≡ t → cond t (wrong_later (arrival_of (record_in list 0)) [] 1 (later_records list)) (Some 0) ≡ Some k → FirstWrong k list × (k < 65)
+    go false t s = let same : 0 ≡ k = cc in (subst (λ n. FirstWrong n list) same (wrong_clock list t), omega arith)
+    go true t s =
+        let found = within (arrival_of (record_in list 0)) [] 1 (later_records list) k s in
+        let i = found.0 in
+        let low : i < 64 = omega (arith, found.1, length-later_records list) in
+        let same : suc i ≡ k = omega (arith, found.2) in
+        (subst (λ n. FirstWrong n list) same (wrong_at list i low t (s ∙ ap (λ x. Some x) (sym found.2))), omega arith)
+
+pub only_images : (before : View) (list : List ℕ) → 1560 ≤ length list → OnlyImages list (loaded before list).answer (loaded before list).book
+only_images before list le = subst (λ f. OnlyImages list (outcome f before (book_in list)).answer (outcome f before (book_in list)).book) (sym fault_is) (go (wrong_record list) refl (overload_in (book_in list)) refl)
+  where
+    fault_is : load_fault list ≡ option_map Image (option_or (wrong_record list) (option_map (λ ab. 65) (overload_in (book_in list))))
+    fault_is = ap (λ f. option_or f (option_map Image (option_or (wrong_record list) (option_map (λ ab. 65) (overload_in (book_in list)))))) (long_enough list le)
+
+    none_over_shown : (b : View) → Lawful b → AllSized b → Shows list b → overload_in (book_in list) ≡ None
+    none_over_shown b l fit shows = ap overload_in (book_shown b l.well_formed fit list shows) ∙ none_over b l
+
+    go : (w : Option ℕ) → wrong_record list ≡ w → (o : Option (ℕ × ℕ)) → overload_in (book_in list) ≡ o
+        → OnlyImages list (outcome (option_map Image (option_or w (option_map (λ ab. 65) o))) before (book_in list)).answer (outcome (option_map Image (option_or w (option_map (λ ab. 65) o))) before (book_in list)).book
+    go (Some n) e o s =
+        let wrong = first_wrong list n e in
+        record {
+          accepted = (λ no. absurd (cc), λ can. absurd (let none = none_wrong_shown can.0 can.1.well_formed can.2 list can.3 in cc));
+          same = λ b l fit shows. absurd (let none = none_wrong_shown b l.well_formed fit list shows in cc);
+          named = λ k is lt. let same : n ≡ k = cc in subst (λ x. FirstWrong x list) same wrong.0;
+          overloaded = λ is. let same : n ≡ 65 = cc in absurd (omega (arith, wrong.1));
+          numbered = λ k is. let same : n ≡ k = cc in omega (arith, wrong.1);
+        }
+    go None e (Some xy) s =
+        let w = wellformed_in list e in
+        let shown = shows_book list e in
+        record {
+          accepted = (λ no. absurd (cc), λ can. absurd (let none = none_over_shown can.0 can.1 can.2 can.3 in cc));
+          same = λ b l fit shows. absurd (let none = none_over_shown b l fit shows in cc);
+          named = λ k is lt. let same : 65 ≡ k = cc in absurd (omega arith);
+          overloaded = λ is. (book_in list, w, shown.1, shown.0, (subst (Searched horizon (demands (book_in list).now (book_in list).jobs) (book_in list).top) s (searched (book_in list) w)).1);
+          numbered = λ k is. let same : 65 ≡ k = cc in omega arith;
+        }
+    go None e None s =
+        let shown = shows_book list e in
+        record {
+          accepted = (λ _. (book_in list, lawful_from (book_in list) (wellformed_in list e) s, shown.1, shown.0), λ _. refl);
+          same = λ b l fit shows. book_shown b l.well_formed fit list shows;
+          named = λ k is lt. absurd (cc);
+          overloaded = λ is. absurd (cc);
+          numbered = λ k is. absurd (cc);
+        }
