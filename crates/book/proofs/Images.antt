@@ -1,6 +1,7 @@
 -- The records of an image, and the book that they say.
 use Rattle.std.proofs.Common.{◌≡◌, ◌≢◌, ℕ, zero, suc, ◌+◌, ◌/◌, ◌%◌, ◌^◌, ◌<◌, ◌≤◌, Bool, true, false, not, ◌&&◌, cond, inl, inr, List, [], ◌∷◌, ◌++◌, ◌∙◌, map, length, Option, Some, None, Ok, sym, refl, ap, subst, pow-suc, arith}
 use Rattle.std.specs.List.{All, AllPairs, list_all, position, take_while, prefix_len}
+use Rattle.std.specs.Bool.{Decides}
 use Rattle.std.specs.Option.{option_map, option_or}
 use Rattle.std.specs.Str.{bytes_eq}
 use Rattle.std.proofs.lemmas.Bool.{cases_Bool, and_parts, cond-true, cond-false, not-true}
@@ -57,8 +58,8 @@ open_from_test now j e = record {
 }
 
 -- the test that all jobs are served before one
-all_before : (j : Job) (before : List Job) → list_all (λ k. is_before k j) before ≡ true → All (λ k. is_before k j ≡ true) before
-all_before j before = (Decides-by_and (λ k. is_before k j) (λ k. is_before k j ≡ true) (list_all (λ k. is_before k j)) (λ k. (λ e. e, λ e. e)) refl (λ _ _. refl) before).0
+pub all_before : (j : Job) (before : List Job) → Decides (list_all (λ k. is_before k j) before) (All (λ k. is_before k j ≡ true) before)
+all_before j before = Decides-by_and (λ k. is_before k j) (λ k. is_before k j ≡ true) (list_all (λ k. is_before k j)) (λ k. (λ e. e, λ e. e)) refl (λ _ _. refl) before
 
 -- what a record says that goes on
 pub goes_on_parts : (now : ℕ) (before : List Job) (r : List ℕ) → goes_on now before r ≡ true → (r ≡ job_record (job_in r)) × Follows now before (job_in r)
@@ -69,7 +70,7 @@ goes_on_parts now before r e =
     let form = and_parts (bytes_eq r (job_record j)) (can_be_open now j && (in_order && other)) e in
     let fields = and_parts (can_be_open now j) (in_order && other) form.1 in
     let rest = and_parts in_order other fields.1 in
-    ((bytes_eq-Decides r (job_record j)).0 form.0, record { open_at = open_from_test now j fields.0; after = all_before j before rest.0; closed = not-true (is_open j.ticket before) rest.1 })
+    ((bytes_eq-Decides r (job_record j)).0 form.0, record { open_at = open_from_test now j fields.0; after = (all_before j before).0 rest.0; closed = not-true (is_open j.ticket before) rest.1 })
 
 -- one more job
 pub standing_push : (now : ℕ) (before : List Job) (j : Job) → Standing now before → Follows now before j → Standing now (before ++ (j ∷ []))
@@ -83,12 +84,15 @@ standing_push now before j s f = record {
 abbrev pub jobs_of : List (List ℕ) → List Job
 jobs_of rs = map job_in (take_while is_job_record rs)
 
+-- one record more
 pub jobs_of_more : (r : List ℕ) (rs : List (List ℕ)) → is_job_record r ≡ true → jobs_of (r ∷ rs) ≡ job_in r ∷ jobs_of rs
 jobs_of_more r rs e = ap (map job_in) (take_while-cons is_job_record r rs ∙ cond-true (is_job_record r) (r ∷ take_while is_job_record rs) [] e)
 
+-- none from the first of another kind on
 pub jobs_of_none : (r : List ℕ) (rs : List (List ℕ)) → is_job_record r ≡ false → jobs_of (r ∷ rs) ≡ []
 jobs_of_none r rs e = ap (map job_in) (take_while-cons is_job_record r rs ∙ cond-false (is_job_record r) (r ∷ take_while is_job_record rs) [] e)
 
+-- no more jobs than records
 pub jobs_of_few : (rs : List (List ℕ)) → length (jobs_of rs) ≤ length rs
 jobs_of_few rs = omega (arith, length-map (take_while is_job_record rs) job_in, length-take (prefix_len is_job_record rs) rs)
 
@@ -125,6 +129,7 @@ pub record Clocked (r : List ℕ) : Type 0 where
   pub positive : 1 ≤ work_of r
   pub within : work_of r ≤ 255
 
+-- what its test says
 pub clock_parts : (r : List ℕ) → is_clock r ≡ true → Clocked r
 clock_parts r e =
     let form = and_parts (bytes_eq r (clock_record (arrival_of r) (work_of r))) _ e in
@@ -134,6 +139,7 @@ clock_parts r e =
 abbrev pub book_of : List ℕ → List (List ℕ) → View
 book_of r rs = record { now = arrival_of r; top = work_of r; jobs = jobs_of rs }
 
+-- no jobs
 pub none_standing : (now : ℕ) → Standing now []
 none_standing now = record { apart = λ a b d lt le. absurd (omega arith); order = λ a b d lt le. absurd (omega arith); open_at = λ k d lt. absurd (omega arith) }
 
@@ -151,9 +157,11 @@ wellformed_jobs r js few c s =
       jobs_open = s.open_at;
     }
 
+-- where no record is wrong, the book that they say is well-formed
 pub wellformed_records : (r : List ℕ) (rs : List (List ℕ)) → length rs ≤ 64 → is_clock r ≡ true → wrong_later (arrival_of r) [] 1 rs ≡ None → WellFormed (book_of r rs)
 wellformed_records r rs few t e = wellformed_jobs r (jobs_of rs) (omega (arith, jobs_of_few rs)) (clock_parts r t) (standing_later (arrival_of r) [] 1 rs (none_standing (arrival_of r)) e)
 
+-- and so is that of an image
 pub wellformed_in : (list : List ℕ) → wrong_record list ≡ None → WellFormed (book_in list)
 wellformed_in list e = go (is_clock (record_in list 0)) refl e
   where
@@ -172,11 +180,12 @@ lawful_from b w none = record {
   none_overloaded = subst (Searched horizon (demands b.now b.jobs) b.top) none (searched b w);
 }
 
+-- where neither is there
 or_none : {A : Type 0} (o p : Option A) → option_or o p ≡ None → (o ≡ None) × (p ≡ None)
 or_none None p e = (refl, e)
 or_none (Some x) p e = absurd (cc)
 
-map_none : {A B : Type 0} (f : A → B) (o : Option A) → option_map f o ≡ None → o ≡ None
+pub map_none : {A B : Type 0} (f : A → B) (o : Option A) → option_map f o ≡ None → o ≡ None
 map_none f None e = refl
 map_none f (Some x) e = absurd (cc)
 
@@ -186,20 +195,24 @@ pub record Loadable (list : List ℕ) : Type 0 where
   pub none_wrong : wrong_record list ≡ None
   pub none_over : overload_in (book_in list) ≡ None
 
+-- it has no fault
 pub loadable : (list : List ℕ) → load_fault list ≡ None → Loadable list
 loadable list e =
     let length = or_none (length_fault list) (option_map Image (option_or (wrong_record list) (overload_record (book_in list)))) e in
     let records = or_none (wrong_record list) (overload_record (book_in list)) (map_none Image (option_or (wrong_record list) (overload_record (book_in list))) length.1) in
     record { long = length.0; none_wrong = records.0; none_over = map_none (λ ab. 65) (overload_in (book_in list)) records.1 }
 
+-- accepted: there is no fault
 answered : (f : Option _) (before after : View) → (outcome f before after).answer ≡ Ok tt → f ≡ None
 answered None before after e = refl
 answered (Some fault) before after e = absurd (cc)
 
+-- a loaded book is lawful
 pub lawful_loaded : (b : View) (list : List ℕ) → (loaded b list).answer ≡ Ok tt → Lawful (book_in list)
 lawful_loaded b list e =
     let l = loadable list (answered (load_fault list) b (book_in list) e) in
     lawful_from (book_in list) (wellformed_in list l.none_wrong) l.none_over
 
+-- and it is the one that the image says
 pub loaded_book : (b : View) (list : List ℕ) → (loaded b list).answer ≡ Ok tt → (loaded b list).book ≡ book_in list
 loaded_book b list e = ap (λ f. (outcome f b (book_in list)).book) (answered (load_fault list) b (book_in list) e)

@@ -19,4 +19,6 @@ pub mod Ticking
 -- images: records of 24 bytes, and the book that they say
 pub mod Records
 pub mod Images
+pub mod WrongRecords
+-- load accepts the images of lawful books, and no others
 pub mod Loads

@@ -18,6 +18,7 @@ joined rs = flat_map (λ r. r) rs
 abbrev pub AllWhole : List (List ℕ) → Type 0
 AllWhole rs = All (λ r. length r ≡ 24) rs
 
+-- how many bytes they are
 pub length-joined : (rs : List (List ℕ)) → AllWhole rs → length (joined rs) ≡ 24 * length rs
 length-joined [] whole = refl
 length-joined (r ∷ rs) whole =
