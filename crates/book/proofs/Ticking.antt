@@ -1,11 +1,11 @@
 -- A tick leaves a lawful book.
-use Rattle.std.proofs.Common.{◌≡◌, ◌≢◌, ℕ, suc, ◌+◌, ◌-◌, ◌<◌, ◌≤◌, Bool, true, false, inl, inr, List, [], ◌∷◌, ◌++◌, ◌∙◌, length, take, drop, get_or, set, refl, sym, ap, arith, add-one}
-use Rattle.std.specs.List.{All, AllPairs, filter}
+use Rattle.std.proofs.Common.{◌≡◌, ◌≢◌, ℕ, zero, suc, ◌+◌, ◌-◌, ◌<◌, ◌≤◌, Bool, true, false, nat_lt, inl, inr, List, [], ◌∷◌, ◌++◌, ◌∙◌, length, take, drop, get_or, set, refl, sym, ap, arith, add-one}
+use Rattle.std.specs.List.{All, AllPairs, filter, sum, sum_by}
 use Rattle.std.proofs.Math.Seq.{drop-cons, take-suc, take-suc-set}
 use Rattle.std.proofs.lemmas.List.{length-map, drop-set-lt, append-nil}
 use Rattle.std.proofs.lemmas.List.Elements.{All-head, All-tail, All-cons, filter-append}
 use Rattle.std.proofs.lemmas.List.Kept.{AllPairs-cons, AllPairs-filter}
-use Rattle.std.proofs.lemmas.List.Sums.{length-filter, count_by-le-length}
+use Rattle.std.proofs.lemmas.List.Sums.{length-filter, count_by-le-length, sum_by-cons}
 use Rattle.std.proofs.lemmas.Slice.Zip.{length-zip}
 use Rattle.std.proofs.lemmas.Bool.{cases_Bool, cases_lt}
 use Rattle.std.proofs.lemmas.Bool.Decides.{nat_tests}
@@ -16,11 +16,12 @@ use Rattle.schedule.specs.Edf.{given, serve, later, next}
 use Rattle.schedule.specs.Theory.{Ticked}
 use Rattle.schedule.proofs.Theory.{theory}
 use Rattle.book.specs.declared.job.Job.{Job}
+use Rattle.book.specs.declared.tick.Entry.{Entry}
 use Rattle.book.specs.Jobs.{is_before}
 use Rattle.book.specs.Demands.{demand, demands}
 use Rattle.book.specs.Book.{View, OpenAt, Lawful, last_tick}
 use Rattle.book.specs.Settings.{settings_of}
-use Rattle.book.specs.Ticks.{shares, worked, has_work, after_tick}
+use Rattle.book.specs.Ticks.{shares, worked, entry, entries, has_work, shares_of, after_tick}
 use Rattle.book.proofs.DemandFacts.{sound-demands}
 use Rattle.book.proofs.Jobs.{AllPairs-head, AllPairs-tail}
 use Rattle.book.proofs.Keeping.{work-filter}
@@ -87,6 +88,22 @@ open_after now u (j ∷ js) all due =
 -- the law of a tick, for a lawful book
 law : (b : View) → Lawful b → Ticked (demands b.now b.jobs)
 law b h = theory.serving.ticked (demands b.now b.jobs) (sorted-demands b.now b.jobs h.well_formed.in_order) (sound-demands horizon b.now b.jobs theory.ticks h.well_formed.jobs_open)
+
+-- what a share adds to the units of the entries
+entry_units : (j : Job) (g : ℕ) (ss : List (Job × ℕ)) → sum_by (λ e. e.units) (entries ((j, g) ∷ ss)) ≡ g + sum_by (λ e. e.units) (entries ss)
+entry_units j zero ss = omega arith
+entry_units j (suc g) ss = let t : nat_lt 0 (suc g) ≡ true = grind (arith, nat_tests) in rw t (sum_by-cons (λ (e : Entry). e.units) (entry (j, suc g)) (entries ss))
+
+-- the entries give the units that the jobs get
+units_given : (now u : ℕ) (js : List Job) → sum_by (λ e. e.units) (entries (shares now u js)) ≡ sum (serve u (demands now js))
+units_given now u [] = refl
+units_given now u (j ∷ js) =
+    let g = given u (demand now j) in
+    entry_units j g (shares now (u - g) js) ∙ ap (λ n. g + n) (units_given now (u - g) js) ∙ sym (sum_by-cons (λ n. n) g (serve (u - g) (demands now js)))
+
+-- in a lawful book that is the setting
+pub gives_setting : (b : View) → Lawful b → sum_by (λ e. e.units) (entries (shares_of b)) ≡ settings_of b 0
+gives_setting b h = units_given b.now (settings_of b 0) b.jobs ∙ (law b h).gives
 
 pub lawful_after : (b : View) → Lawful b → b.now ≢ last_tick → Lawful (after_tick b)
 lawful_after b h more =

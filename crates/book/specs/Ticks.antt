@@ -1,5 +1,5 @@
 -- What the call tick answers, the book that it leaves, and what its list holds afterwards.
-use Rattle.std.specs.Prelude.{ℕ, ◌+◌, ◌-◌, ◌++◌, Bool, if◌then◌else◌, List, length, map, drop, Some, None, Ok, Err, Option, Result, ◌==◌, nat_lt}
+use Rattle.std.specs.Prelude.{◌≡◌, ℕ, ◌+◌, ◌-◌, ◌++◌, Bool, if◌then◌else◌, List, length, map, take, drop, sum_by, Some, None, Ok, Err, Option, Result, ◌==◌, nat_lt}
 use Rattle.std.specs.List.{filter, zip}
 use Rattle.schedule.specs.Edf.{serve}
 use Rattle.book.specs.declared.job.Job.{Job}
@@ -63,3 +63,8 @@ ticking None b list =
 
 abbrev pub ticked : View → List Entry → Ticking
 ticked b list = ticking (tick_fault b list) b list
+
+-- the units of the entries that a served tick wrote add up to its setting
+abbrev pub GivesSetting : Result Served BookFault → List Entry → Type 0
+GivesSetting (Ok s) list = sum_by (λ e. e.units) (take s.count list) ≡ s.setting
+GivesSetting (Err f) list = Unit {0}

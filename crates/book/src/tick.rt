@@ -4,7 +4,7 @@ ghost use Rattle.std.specs.List.Sorted.{IsPermutation};
 ghost use Rattle.queue.specs.Slots.{slots_of, held};
 ghost use Rattle.book.specs.Book.{OpenAt, InOrder};
 ghost use Rattle.book.specs.Ready.{ready_from};
-ghost use Rattle.book.specs.Ticks.{shares, worked, entries, with_entries, ticked};
+ghost use Rattle.book.specs.Ticks.{shares, worked, entries, with_entries, ticked, GivesSetting};
 
 use super::book::Book;
 use super::fault::BookFault;
@@ -102,6 +102,7 @@ impl Book {
         ensures answer { result ≡ (ticked self.old list.old).answer }
         ensures after { self.new ≡ (ticked self.old list.old).book }
         ensures list { list.new ≡ (ticked self.old list.old).list }
+        ensures gives { GivesSetting result list.new }
     {
         if list.len() < PLACES {
             return Err(BookFault::Short { needed: PLACES });

@@ -1,13 +1,15 @@
-use Rattle.std.proofs.Common.{◌≡◌, ◌+◌, ◌<◌, ◌∙◌, false, Ok, ltb, ◌==◌, get_or, length, ap, arith}
+use Rattle.std.proofs.Common.{◌≡◌, ◌+◌, ◌<◌, ◌∙◌, false, Ok, ltb, ◌==◌, get_or, length, take, drop, sym, ap, arith}
+use Rattle.std.proofs.Math.Seq.{take-append_seam}
 use Rattle.std.proofs.lemmas.Bool.Decides.{nat_tests}
-use Rattle.std.specs.List.{filter}
+use Rattle.std.specs.List.{filter, sum_by}
 use Rattle.schedule.specs.InForce.{horizon}
 use Rattle.schedule.proofs.Theory.{theory}
+use Rattle.book.specs.declared.tick.Entry.{Entry}
 use Rattle.book.specs.Book.{View, with_jobs, last_tick}
 use Rattle.book.specs.Settings.{settings_of}
 use Rattle.book.specs.Ticks.{has_work, with_entries}
 use Rattle.book.proofs.Serving.{jobs_then, entries_then}
-use Rattle.book.proofs.Ticking.{lawful_after}
+use Rattle.book.proofs.Ticking.{gives_setting, lawful_after}
 use Rattle.book.proofs.book.Book.tick.Goals as goal
 
 pub overflow_cast-setting : goal.overflow_cast-setting
@@ -38,8 +40,13 @@ returns c =
     let count : c.serve-count.result ≡ length es = c.serve-count.ensures.count ∙ ap (λ u. length (entries_then b.now u b.jobs)) setting in
     let enough : ltb (length c.args.list.now) 64 ≡ false = grind (arith, nat_tests) in
     let more : (b.now == last_tick) ≡ false = grind (arith, nat_tests) in
+    let written : take c.serve-count.result c.serve-count.new.list ≡ es =
+    (λ i. take (count i) (list i)) ∙ take-append_seam es (drop (length es) c.args.list.now) in
+    let gives : sum_by (λ e. e.units) (take c.serve-count.result c.serve-count.new.list) ≡ get_or c.settings_in_force-settings.result 0 0 =
+    ap (sum_by (λ (e : Entry). e.units)) written ∙ gives_setting b c.self.invariant ∙ sym setting in
     rw (← c.self.view_is, enough, more) (record {
       answer = λ i. Ok (record { setting = setting i; count = count i });
       after = λ i. record { now = b.now + 1; top = b.top; jobs = jobs i };
       list = list;
+      gives = gives;
     })
