@@ -9,8 +9,10 @@ pub mod Jobs
 pub mod Keeping
 pub mod Striking
 pub mod Offering
--- the settings in force
+-- the settings in force, and what they draw
 pub mod Planning
+pub mod Copying
+pub mod Billing
 -- the ready jobs of a tick, and serving them
 pub mod Ready
 pub mod Serving

@@ -12,6 +12,7 @@
 //! A refused call leaves the book as it was, and nothing is taken from a heap of memory.
 #![tactic(auto)]
 
+mod bill;
 mod blocks;
 mod book;
 mod fault;

@@ -54,7 +54,23 @@ pub(super) fn settings_in_force(jobs: &[Job], now: u64) -> [u32; 256]
 }
 
 impl Book {
-    ghost use Rattle.book.specs.Settings.{listing};
+    ghost use Rattle.book.specs.Book.{Lawful};
+    ghost use Rattle.book.specs.Settings.{settings_of, listing};
+
+    // The settings in force as bytes, which they fit since none is above the top.
+    pub(super) fn setting_bytes(&self) -> [u8; SETTINGS]
+        ensures settings { Same horizon (listed result) (settings_of self.now) }
+        ensures in_force { InForce horizon (demands self.now.now self.now.jobs) (listed result) }
+        ensures lawful { Lawful self.now }
+    {
+        let settings = settings_in_force(self.jobs.jobs(), self.tick);
+        let mut bytes = [0; SETTINGS];
+        // By index: that a setting fits is known of its tick.
+        for (tick, setting) in settings.iter().enumerate() {
+            bytes[tick] = *setting as u8;
+        }
+        bytes
+    }
 
     /// Writes the settings in force into the first 256 places of the list.
     ///
@@ -67,10 +83,7 @@ impl Book {
         if list.len() < SETTINGS {
             return Err(BookFault::Short { needed: SETTINGS });
         }
-        let settings = settings_in_force(self.jobs.jobs(), self.tick);
-        for (tick, setting) in settings.iter().enumerate() {
-            list[tick] = *setting as u8;
-        }
+        list[..SETTINGS].copy_from_slice(&self.setting_bytes());
         Ok(())
     }
 }

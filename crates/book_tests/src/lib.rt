@@ -3,6 +3,8 @@
 #![tactic(auto)]
 
 #[cfg(test)]
+mod bill;
+#[cfg(test)]
 mod fields;
 #[cfg(test)]
 mod overload;

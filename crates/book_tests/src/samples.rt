@@ -21,6 +21,15 @@ pub(super) fn book_at(rt: &impl Abort, now: u64, top: u16) -> Book {
     book
 }
 
+// A book at 0 with the top and these jobs.
+pub(super) fn book_of(rt: &impl Abort, top: u16, jobs: &[Job]) -> Book {
+    let mut book = book_at(rt, 0, top);
+    for job in jobs {
+        assert_eq!(rt; book.offer(*job), Ok(()));
+    }
+    book
+}
+
 // An offer that is refused leaves the open jobs, now and the top.
 pub(super) fn check_left(rt: &impl Abort, book: &Book, now: u64, top: u8, jobs: &[Job]) {
     assert_eq!(rt; book.now(), now);

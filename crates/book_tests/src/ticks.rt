@@ -1,6 +1,6 @@
 // Settings in force and ticks: what is written, what is left, and what is refused.
-use super::samples::{LAST_TICK, book_at, check_left, job};
-use book::{Book, BookFault, Entry, Job, Served};
+use super::samples::{LAST_TICK, book_at, book_of, check_left, job};
+use book::{Book, BookFault, Entry, Served};
 use std::process::Abort;
 
 // What stands in a place of the list that no entry takes.
@@ -11,14 +11,6 @@ const FREE: Entry = Entry {
 
 fn entry(ticket: u16, units: u16) -> Entry {
     Entry { ticket, units }
-}
-
-fn book_of(rt: &impl Abort, top: u16, jobs: &[Job]) -> Book {
-    let mut book = book_at(rt, 0, top);
-    for job in jobs {
-        assert_eq!(rt; book.offer(*job), Ok(()));
-    }
-    book
 }
 
 // The settings in force begin with these, and are 0 after them.
