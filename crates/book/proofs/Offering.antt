@@ -1,5 +1,5 @@
 -- What an offer answers and leaves.
-use Rattle.std.proofs.Common.{◌≡◌, ◌≢◌, ℕ, ◌<◌, ◌≤◌, true, false, not, nat_le, inl, inr, List, length, get_or, Option, Some, None, Ok, Err, Result, refl, sym, arith, subst}
+use Rattle.std.proofs.Common.{◌≡◌, ◌≢◌, ℕ, ◌+◌, ◌<◌, ◌≤◌, true, false, not, nat_le, inl, inr, List, length, get_or, Option, Some, None, Ok, Err, Result, refl, sym, arith, subst}
 use Rattle.std.specs.List.{All, AllPairs, position_or_len}
 use Rattle.std.specs.Option.{option_map, option_or}
 use Rattle.std.proofs.lemmas.Bool.{cases_Bool, cases_eq, both_ways}
@@ -9,7 +9,8 @@ use Rattle.std.proofs.lemmas.List.Folds.{list_any_at}
 use Rattle.std.proofs.lemmas.List.Sums.{fails_before_first, passes_at_first, prefix_len-le-length}
 use Rattle.schedule.specs.Demands.{Sound}
 use Rattle.schedule.specs.InForce.{horizon}
-use Rattle.schedule.specs.Overload.{Searched}
+use Rattle.schedule.specs.Overload.{FirstOverload, Searched}
+use Rattle.schedule.specs.Work.{work}
 use Rattle.schedule.proofs.Theory.{theory}
 use Rattle.book.specs.declared.job.Job.{Job}
 use Rattle.book.specs.declared.fault.BookFault.{BookFault}
@@ -19,7 +20,7 @@ use Rattle.book.specs.Jobs.{is_before, has_ticket, is_open, with_job}
 use Rattle.book.specs.Demands.{demands}
 use Rattle.book.specs.Book.{View, OpenAt, InOrder, Lawful}
 use Rattle.book.specs.Calls.{answer_of, field_fault, place_fault, early_fault, overload_in, overload_at, counted, outcome, offered}
-use Rattle.book.specs.Offers.{IsDoable, IsOverload, OnlyOverload}
+use Rattle.book.specs.Offers.{IsDoable, IsOverload, NamesFirst, OnlyOverload}
 use Rattle.book.proofs.DemandFacts.{sound-demands}
 use Rattle.book.proofs.Jobs.{All-insert, AllPairs-insert}
 
@@ -116,6 +117,10 @@ module _ (b : View) (j : Job) (lawful : Lawful b) (ok : Admissible b j) where
     none_overloaded = subst (Searched horizon (demands b.now (with_job j b.jobs)) b.top) none counted_searched;
   }
 
+  -- the interval that the search finds is the first
+  pub counted_first : (x y : ℕ) → overload_in (counted b j) ≡ Some (x, y) → FirstOverload horizon (demands b.now (with_job j b.jobs)) b.top x y
+  counted_first x y some = (subst (Searched horizon (demands b.now (with_job j b.jobs)) b.top) some counted_searched).0
+
   -- the search finds none just where the work can be done
   pub counted_doable : overload_in (counted b j) ≡ None → IsDoable (counted b j)
   counted_doable none = (theory.enough.up_to_top horizon (demands b.now (with_job j b.jobs)) b.top counted_sound).0 (counted_lawful none).none_overloaded
@@ -145,6 +150,17 @@ early_other b j f = go (field_fault b.now j)
     go None e = place_other b.jobs j f e
     go (Some field) e = other_fault (Some (Field field)) f (Field field) refl (λ no. no) e
 
+-- the fault of an interval names it, and no other
+named_by : (b : View) (x y : ℕ) → FirstOverload horizon (demands b.now b.jobs) b.top x y → NamesFirst b (Err (overload_at b (x, y)))
+named_by b x y first u v w same =
+    let ds = demands b.now b.jobs in
+    let told_from : b.now + x ≡ b.now + u = cc in
+    let told_to : b.now + y ≡ b.now + v = cc in
+    let told_work : work ds x y ≡ w = cc in
+    let from : x ≡ u = omega arith in
+    let to : y ≡ v = omega arith in
+    rw (← from, ← to) (first, sym told_work)
+
 -- an offer leaves a lawful book
 pub lawful-offered : (b : View) (j : Job) → Lawful b → Lawful (offered b j).book
 lawful-offered b j lawful = go (early_fault b j) refl (overload_in (counted b j)) refl
@@ -155,7 +171,7 @@ lawful-offered b j lawful = go (early_fault b j) refl (overload_in (counted b j)
     go None e (Some xy) s = lawful
     go None e None s = counted_lawful b j lawful (admissible b j e) s
 
--- and its answer tells what work can be done
+-- and its answer tells what work can be done, or names the first overloaded interval
 only_offered : (b : View) (j : Job) → Lawful b → OnlyOverload b j (offered b j).answer
 only_offered b j lawful = go (early_fault b j) refl (overload_in (counted b j)) refl
   where
@@ -164,13 +180,15 @@ only_offered b j lawful = go (early_fault b j) refl (overload_in (counted b j)) 
     go (Some f) e r s = record {
       accepted = (λ no. absurd (cc), λ can. absurd (cc));
       refused = (λ is. absurd (early_other b j f e is), λ cannot. absurd (cc));
+      named = λ x y w same. absurd (early_other b j f e (subst IsOverload (sym same) tt));
     }
     go None e (Some xy) s =
         let cannot = counted_not_doable b j lawful (admissible b j e) xy.0 xy.1 s in
-        record { accepted = (λ no. absurd (cc), λ can. absurd (cannot can.1)); refused = (λ _. (e, cannot), λ _. tt) }
+        let first = counted_first b j lawful (admissible b j e) xy.0 xy.1 s in
+        record { accepted = (λ no. absurd (cc), λ can. absurd (cannot can.1)); refused = (λ _. (e, cannot), λ _. tt); named = named_by (counted b j) xy.0 xy.1 first }
     go None e None s =
         let can = counted_doable b j lawful (admissible b j e) s in
-        record { accepted = (λ _. (e, can), λ _. refl); refused = (λ no. absurd no, λ cannot. absurd (cannot.1 can)) }
+        record { accepted = (λ _. (e, can), λ _. refl); refused = (λ no. absurd no, λ cannot. absurd (cannot.1 can)); named = λ x y w same. absurd (cc) }
 
 pub only_overload : (b : View) (j : Job) (answer : Result (Unit {0}) BookFault) → Lawful b → answer ≡ (offered b j).answer → OnlyOverload b j answer
 only_overload b j answer lawful e = subst (OnlyOverload b j) (sym e) (only_offered b j lawful)

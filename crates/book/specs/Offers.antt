@@ -1,7 +1,9 @@
 -- What an answer to an offer tells of the open work and the offered work.
-use Rattle.std.specs.Prelude.{◌≡◌, ℕ, ◌<◌, ◌≤◌, ◌↔◌, None, Ok, Err, Result, IsOk}
+use Rattle.std.specs.Prelude.{◌≡◌, ℕ, ◌+◌, ◌<◌, ◌≤◌, ◌↔◌, None, Ok, Err, Result, IsOk}
 use Rattle.schedule.specs.InForce.{horizon}
+use Rattle.schedule.specs.Overload.{FirstOverload}
 use Rattle.schedule.specs.Sharing.{Does}
+use Rattle.schedule.specs.Work.{work}
 use Rattle.book.specs.declared.job.Job.{Job}
 use Rattle.book.specs.declared.fault.BookFault.{BookFault}
 use Rattle.book.specs.declared.fault.BookFault.TheVariants.{Read, Field, TicketOpen, Full, Overload, NotOpen, Short, LastTick, Image}
@@ -26,8 +28,14 @@ IsOverload (Err (Short needed)) = ⊥
 IsOverload (Err (LastTick now)) = ⊥
 IsOverload (Err (Image number)) = ⊥
 
+-- a refusal for overload names the first overloaded interval of a book, and the work inside
+abbrev pub NamesFirst : View → Result (Unit {0}) BookFault → Type 0
+NamesFirst b answer = (x y w : ℕ) → answer ≡ Err (Overload (b.now + x) (b.now + y) w)
+    → FirstOverload horizon (demands b.now b.jobs) b.top x y × (w ≡ work (demands b.now b.jobs) x y)
+
 -- an offer that passes its other checks is accepted just where some list of settings up to the top does the open work and the offered work,
--- and refused for overload just where none does
+-- and refused for overload just where none does; the refusal names the first interval that is overloaded with the offered job
 pub record OnlyOverload (b : View) (j : Job) (answer : Result (Unit {0}) BookFault) : Type 0 where
   pub accepted : IsOk answer ↔ ((early_fault b j ≡ None) × IsDoable (counted b j))
   pub refused : IsOverload answer ↔ ((early_fault b j ≡ None) × (IsDoable (counted b j) → ⊥))
+  pub named : NamesFirst (counted b j) answer

@@ -16,6 +16,9 @@ overload_fault-requires-clause-open c =
     let early : early_fault b c.args.job ≡ None = subst (λ v. early_fault v c.args.job ≡ None) (sym c.self.view_is) (no_fault _ (sym c.in_ok-check.ensures)) in
     rw (c.jobs.ensures.jobs, c.with_job-jobs.ensures) (counted_open b c.args.job c.self.invariant (admissible b c.args.job early))
 
+pub returns-in_err-check-clause-only_overload : goal.returns-in_err-check-clause-only_overload
+returns-in_err-check-clause-only_overload c = only_overload c.args.self.now c.args.job c.from_residual.result (subst Lawful c.self.view_is c.self.invariant) (search rules)
+
 pub returns-in-Some-clause-only_overload : goal.returns-in-Some-clause-only_overload
 returns-in-Some-clause-only_overload c = only_overload c.args.self.now c.args.job (Err c.in-Some.fault) (subst Lawful c.self.view_is c.self.invariant) (search rules)
 
