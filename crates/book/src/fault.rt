@@ -41,10 +41,10 @@ pub enum BookFault {
 }
 
 impl From<ReadFault> for BookFault {
-    ghost from_gives = { λ e r. r ≡ Read e };
+    ghost from_gives = { λ fault above. above ≡ Read fault };
 
-    fn from(e: ReadFault) -> BookFault {
-        BookFault::Read(e)
+    fn from(fault: ReadFault) -> BookFault {
+        BookFault::Read(fault)
     }
 }
 

@@ -1,4 +1,5 @@
-//! The book: now, the top and the open jobs, with the calls that open it, offer a job and strike one.
+//! The book: now, the top and the open jobs, with the calls that open it, offer a job and strike one, write the settings in force and
+//! bill them, and serve a tick.
 //!
 //! ```text
 //! let mut book = Book::new();
@@ -6,6 +7,12 @@
 //! book.offer(Job { ticket: 7, arrival: 0, deadline: 2, work: 3 })?;
 //! // Err(BookFault::Overload { start: 0, end: 2, work: 9 })
 //! let answer = book.offer(Job { ticket: 9, arrival: 0, deadline: 2, work: 6 });
+//! // The list begins with 2 and 1, and 254 zeros.
+//! book.settings(&mut list)?;
+//! // 8 + 1 = 9, where a setting draws its cube.
+//! let bill = book.bill(&Cube::new(0, 1)?);
+//! // Served { setting: 2, count: 1 }, and the first entry is Entry { ticket: 7, units: 2 }.
+//! let served = book.tick(&mut entries)?;
 //! book.strike(7)?;
 //! ```
 //!
@@ -26,4 +33,5 @@ pub use blocks::Block;
 pub use book::Book;
 pub use fault::{BookFault, BookField};
 pub use job::Job;
+pub use table::PLACES;
 pub use tick::{Entry, Served};

@@ -65,7 +65,7 @@ impl Book {
     {
         let settings = settings_in_force(self.jobs.jobs(), self.tick);
         let mut bytes = [0; SETTINGS];
-        // By index: that a setting fits is known of its tick.
+        // By index, since the bound on a setting, which the cast needs, is known of its tick.
         for (tick, setting) in settings.iter().enumerate() {
             bytes[tick] = *setting as u8;
         }
@@ -74,7 +74,7 @@ impl Book {
 
     /// Writes the settings in force into the first 256 places of the list.
     ///
-    /// Refuses a list that has fewer, and leaves it as it was.
+    /// Refuses a list that has fewer ([`BookFault::Short`]), and leaves it as it was.
     pub fn settings(&self, list: &mut [u8]) -> Result<(), BookFault>
         ensures answer { result ≡ (listing self.entry.now list.old).answer }
         ensures list { list.new ≡ (listing self.entry.now list.old).list }

@@ -9,8 +9,8 @@ use super::job::Job;
 use super::tick::{Entry, serve};
 use std::marker::Model;
 
-/// How many jobs can be open.
-pub(super) const PLACES: usize = 64;
+/// How many jobs can be open, and so how many entries a tick can write.
+pub const PLACES: usize = 64;
 
 // What stands in a place that was never taken.
 const NO_JOB: Job = Job {
@@ -107,6 +107,7 @@ impl Table {
         self.places.copy_within(place + 1..self.count, place);
         self.count -= 1;
     }
+
     // Serves the jobs at now, with an entry for each that got units, and answers how many there are.
     pub(super) fn serve(&mut self, now: u64, setting: u8, list: &mut [Entry]) -> usize
         requires room { 64 ≤ length list.old }
@@ -119,7 +120,7 @@ impl Table {
         serve(&mut self.places[..self.count], now, setting, list)
     }
 
-    // Removes the jobs that have no work left.
+    // Removes the jobs that have no work left. The others move up by index within the table, since its places are fixed and there is no heap.
     pub(super) fn close_done(&mut self)
         ensures { self.new ≡ filter has_work self.old }
     {

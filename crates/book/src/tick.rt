@@ -95,9 +95,11 @@ pub(super) fn serve(jobs: &mut [Job], now: u64, setting: u8, list: &mut [Entry])
 
 impl Book {
     /// Serves one tick: the first setting in force goes to the open jobs whose windows have begun, by earliest deadline, then least ticket. Jobs with
-    /// no work left close, and now rises by 1. Writes an entry into the list for each job that got units, in the order of serving.
+    /// no work left close, and now rises by 1. Writes an entry into the list for each job that got units, in the order of serving; their units add up
+    /// to the setting.
     ///
-    /// Refuses a list of fewer than 64 places, and a tick at the last tick of all, in this order. Both leave the list as it was.
+    /// Refuses a list of fewer than 64 places ([`BookFault::Short`]), then a tick at the last tick of all ([`BookFault::LastTick`]). Both leave the
+    /// list as it was.
     pub fn tick(&mut self, list: &mut [Entry]) -> Result<Served, BookFault>
         ensures answer { result ≡ (ticked self.old list.old).answer }
         ensures after { self.new ≡ (ticked self.old list.old).book }

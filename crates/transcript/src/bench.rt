@@ -6,8 +6,8 @@ ghost use Rattle.std.specs.Iterator.{at_most};
 ghost use Rattle.transcript.specs.Run.{start_of, step_of, passed, lines_left, SaysNext};
 
 use super::fault::BenchFault;
-use super::line::{Line, PLACES, Tick};
-use book::{Book, BookFault, Entry, Job, Served};
+use super::line::{Line, Tick};
+use book::{Book, BookFault, Entry, Job, PLACES, Served};
 use layout::{Offer, Record};
 use record::{Reader, shown};
 use std::marker::Model;

@@ -4,12 +4,9 @@ ghost use Rattle.transcript.specs.Entries.{entry_of};
 ghost use Rattle.transcript.specs.Text.{entry_text, tick_text};
 
 use super::fault::BenchFault;
-use book::Entry;
+use book::{Entry, PLACES};
 use refusal::Refusal;
 use std::fmt;
-
-// How many places a tick needs for its entries.
-pub(super) const PLACES: usize = 64;
 
 /// What a tick served.
 #[derive(Clone, Copy)]
