@@ -1,7 +1,6 @@
 -- What is promised of every life, at each of its moments and of each of its events.
 use Rattle.std.specs.Prelude.{◌≡◌, ℕ, ◌<◌, ◌≤◌, true, false, ◌⊎◌, List, [], ◌∷◌, length, replicate, All, Some, None, sum_by}
 use Rattle.power.specs.Laws.{Lawful}
-use Rattle.schedule.specs.Demands.{Demand}
 use Rattle.schedule.specs.Sharing.{Does}
 use Rattle.schedule.specs.Draws.{drawn}
 use Rattle.schedule.specs.InForce.{horizon}
@@ -14,7 +13,7 @@ use Rattle.book.specs.Demands.{demand}
 use Rattle.book.specs.Book.{View}
 use Rattle.book.specs.Calls.{early_fault}
 use Rattle.book.specs.Settings.{listing}
-use Rattle.life.specs.Events.{Call, offer, strike, tick, settings, blocks, bill, save, Answer, done, served, number, refused, Event, book_after}
+use Rattle.life.specs.Events.{Call, offer, strike, tick, settings, blocks, bill, save, Answer, done, served, refused, Event, book_after}
 use Rattle.life.specs.Tally.{Row, Tally, is_open, open_jobs, owed, last_row, noted}
 use Rattle.life.specs.Life.{Life, begun, tally_of}
 

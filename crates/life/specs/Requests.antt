@@ -1,6 +1,5 @@
 -- What the requests of a console answer and leave, and the events that they are.
-use Rattle.std.specs.Prelude.{ℕ, List, [], take, Ok, Err, Result}
-use Rattle.book.specs.declared.job.Job.{Job}
+use Rattle.std.specs.Prelude.{List, [], take, Ok, Err, Result}
 use Rattle.book.specs.declared.fault.BookFault.{BookFault}
 use Rattle.book.specs.declared.tick.Entry.{Entry}
 use Rattle.book.specs.declared.tick.Served.{Served as Share}

@@ -1,5 +1,5 @@
 -- The tally of a life. It is fed the calls in their order, with their arguments, answers and written entries, and nothing else.
-use Rattle.std.specs.Prelude.{◌≡◌, ℕ, ◌+◌, ◌-◌, Bool, true, false, not, ◌&&◌, if◌then◌else◌, List, [], ◌∷◌, map, filter, find, Option, ◌==◌, nat_lt}
+use Rattle.std.specs.Prelude.{ℕ, ◌+◌, ◌-◌, Bool, true, false, not, ◌&&◌, if◌then◌else◌, List, [], ◌∷◌, map, filter, find, Option, ◌==◌, nat_lt}
 use Rattle.schedule.specs.Demands.{Demand}
 use Rattle.book.specs.declared.job.Job.{Job}
 use Rattle.book.specs.declared.tick.Entry.{Entry}
