@@ -5,3 +5,6 @@ pub mod Reordering
 -- the jobs and the rows after the entries of a tick
 pub mod Entries
 pub mod Feeding
+-- a tally and a book that agree, and what is promised at each moment
+pub mod Agreeing
+pub mod Standing

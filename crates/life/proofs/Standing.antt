@@ -1,0 +1,115 @@
+-- What is promised at each moment holds where the tally and the book agree.
+use Rattle.std.proofs.Common.{◌≡◌, ℕ, ◌<◌, ◌≤◌, ◌∙◌, false, cond, inl, inr, List, [], ◌∷◌, length, map, drop, get_or, refl, sym, ap, subst, arith}
+use Rattle.std.specs.Prelude.{replicate, nat_lt}
+use Rattle.std.specs.List.{All, range_with_len, sum_by}
+use Rattle.std.specs.List.Sorted.{IsPermutation}
+use Rattle.std.proofs.lemmas.Bool.{cases_Bool}
+use Rattle.std.proofs.lemmas.Bool.Decides.{nat_tests}
+use Rattle.std.proofs.lemmas.List.{get_or_append_left, length-replicate}
+use Rattle.std.proofs.lemmas.List.FromFn.{get_or-map-range_with_len, length-map-range_with_len}
+use Rattle.std.proofs.lemmas.List.Elements.{All-head, All-tail, All-cons}
+use Rattle.std.proofs.lemmas.List.Sums.{sum_by-cons}
+use Rattle.std.proofs.lemmas.List.Sorted.{IsPermutation-sym, All-permutation, sum_by-IsPermutation}
+use Rattle.schedule.specs.Demands.{Sound}
+use Rattle.schedule.specs.Work.{inside, work, Fits}
+use Rattle.schedule.specs.Sharing.{Does}
+use Rattle.schedule.specs.Draws.{drawn}
+use Rattle.schedule.specs.Settled.{Settled}
+use Rattle.schedule.specs.InForce.{horizon, Same}
+use Rattle.schedule.proofs.SettledLaws.{settled_same}
+use Rattle.schedule.proofs.SumsLaws.{upto_same}
+use Rattle.schedule.proofs.Theory.{theory}
+use Rattle.book.specs.declared.job.Job.{Job}
+use Rattle.book.specs.Demands.{demand, demands}
+use Rattle.book.specs.Book.{View, OpenAt}
+use Rattle.book.specs.Settings.{settings_of, listing, with_settings}
+use Rattle.book.proofs.DemandFacts.{sound-demands}
+use Rattle.life.specs.Tally.{Row, Tally, is_open, job_left, open_jobs}
+use Rattle.life.specs.Promises.{in_force, InTime, Cheapest, Stands}
+use Rattle.life.proofs.Rows.{Within}
+use Rattle.life.proofs.Agreeing.{Agrees}
+
+-- where each open row has a tick left, each row is in time
+rows_in_time : (now : ℕ) (rows : List Row) → All (λ j. now < j.deadline) (open_jobs rows) → Within rows → All (InTime now) rows
+rows_in_time now [] open_rows within = λ k d lt. absurd (omega arith)
+rows_in_time now (r ∷ rs) open_rows within = elim (cases_Bool (is_open r)) [
+  | inl t ↦
+      let later : All (λ j. now < j.deadline) (job_left r ∷ open_jobs rs) = rw t at open_rows in
+      let here : now < r.deadline = All-head (λ j. now < j.deadline) (job_left r) (open_jobs rs) later in
+      All-cons (InTime now) r rs
+      (record { no_more = All-head (λ r. r.had ≤ r.work) r rs within; all_had = λ alive due. absurd (omega arith) })
+      (rows_in_time now rs (All-tail (λ j. now < j.deadline) (job_left r) (open_jobs rs) later) (All-tail (λ r. r.had ≤ r.work) r rs within))
+  | inr t ↦
+      let later : All (λ j. now < j.deadline) (open_jobs rs) = rw t at open_rows in
+      let no_more : r.had ≤ r.work = All-head (λ r. r.had ≤ r.work) r rs within in
+      All-cons (InTime now) r rs
+      (record { no_more = no_more; all_had = λ alive due. grind (arith, nat_tests) })
+      (rows_in_time now rs later (All-tail (λ r. r.had ≤ r.work) r rs within))
+]
+
+-- the work of an interval is a sum over the jobs, in which their order counts for nothing
+work_sum : (now a b : ℕ) (js : List Job) → work (demands now js) a b ≡ sum_by (λ j. cond (inside a b (demand now j)) j.work 0) js
+work_sum now a b [] = refl
+work_sum now a b (j ∷ js) = omega (arith, work_sum now a b js, sum_by-cons (λ k. cond (inside a b (demand now k)) k.work 0) j js)
+
+pub work_any_order : (now a b : ℕ) (js ks : List Job) → IsPermutation js ks → work (demands now ks) a b ≡ work (demands now js) a b
+work_any_order now a b js ks same =
+    omega (arith, work_sum now a b js, work_sum now a b ks, sum_by-IsPermutation (λ j. cond (inside a b (demand now j)) j.work 0) js ks same)
+
+-- settings that do the work of jobs do it in any order of the jobs
+pub does_any_order : (now : ℕ) (js ks : List Job) (s : ℕ → ℕ) → All (OpenAt now) ks → IsPermutation js ks → Does horizon (demands now js) s → Does horizon (demands now ks) s
+does_any_order now js ks s open_at same does =
+    let before : Sound horizon (demands now js) = sound-demands horizon now js theory.ticks (All-permutation (OpenAt now) ks js (IsPermutation-sym js ks same) open_at) in
+    let after : Sound horizon (demands now ks) = sound-demands horizon now ks theory.ticks open_at in
+    let fits : Fits horizon (demands now js) s = (theory.enough.does horizon (demands now js) s before).0 does in
+    (theory.enough.does horizon (demands now ks) s after).1 (λ a b lt le. omega (arith, fits a b lt le, work_any_order now a b js ks same))
+
+-- what the question settings writes, given room, are the settings of the book
+pub in_force_same : (b : View) → Same horizon (in_force b) (settings_of b)
+in_force_same b t lt =
+    let room : List ℕ = replicate horizon 0 in
+    let enough : nat_lt (length room) 256 ≡ false = grind (arith, nat_tests, length-replicate {A = ℕ} horizon 0, theory.ticks) in
+    let list : (listing b room).list ≡ with_settings b room = rw enough refl in
+    let first : get_or (map (settings_of b) (range_with_len 0 horizon)) t 0 ≡ settings_of b t = get_or-map-range_with_len (settings_of b) 0 horizon t t 0 lt (omega arith) in
+    ap (λ xs. get_or xs t 0) list
+    ∙ get_or_append_left (map (settings_of b) (range_with_len 0 horizon)) (drop horizon room) 0 t (omega (arith, length-map-range_with_len (settings_of b) 0 horizon))
+    ∙ first
+
+-- so they draw as much
+drawn_same : (n : ℕ) (D s q : ℕ → ℕ) → Same n s q → drawn n D s ≡ drawn n D q
+drawn_same n D s q same = upto_same (λ t. D (s t)) (λ t. D (q t)) n (λ t lt. ap D (same t lt))
+
+-- the settings in force do the open work, within the top, and no others that do it draw less
+cheapest : (t : Tally) (b : View) → Agrees t b → Cheapest t (in_force b)
+cheapest t b agrees =
+    let open_at = agrees.lawful.well_formed.jobs_open in
+    let sound : Sound horizon (demands b.now b.jobs) = sound-demands horizon b.now b.jobs theory.ticks open_at in
+    let same = in_force_same b in
+    let settled : Settled horizon (demands b.now b.jobs) (in_force b) =
+    settled_same horizon (demands b.now b.jobs) (demands b.now b.jobs) (settings_of b) (in_force b) (λ _ _ _ _. refl) (λ t lt. sym (same t lt))
+    ((theory.standing.settled horizon (demands b.now b.jobs) (settings_of b) sound).0 (theory.standing.in_force (demands b.now b.jobs) sound)) in
+    let back = IsPermutation-sym (open_jobs t.rows) b.jobs agrees.same in
+    let rows_open : All (OpenAt b.now) (open_jobs t.rows) = All-permutation (OpenAt b.now) b.jobs (open_jobs t.rows) back open_at in
+    record {
+      up_to_top = λ k lt. omega (arith, agrees.top, same k lt, theory.standing.within (demands b.now b.jobs) b.top agrees.lawful.none_overloaded k lt);
+      does = subst (λ now. Does horizon (demands now (open_jobs t.rows)) (in_force b)) (sym agrees.now)
+          (does_any_order b.now b.jobs (open_jobs t.rows) (in_force b) rows_open back ((theory.enough.does horizon (demands b.now b.jobs) (in_force b) sound).1 settled.fits));
+      least = λ D laws q up does.
+          let book_does : Does horizon (demands b.now b.jobs) q =
+          does_any_order b.now (open_jobs t.rows) b.jobs q open_at agrees.same (subst (λ now. Does horizon (demands now (open_jobs t.rows)) q) agrees.now does) in
+          omega (
+            arith,
+            drawn_same horizon D (in_force b) (settings_of b) same,
+            theory.optimum.cheapest (demands b.now b.jobs) q book_does 255 (λ k lt. omega (arith, up k lt, agrees.top, agrees.lawful.well_formed.top_within)) D laws.0 laws.1,
+          );
+    }
+
+-- the promises of a moment
+pub stands : (t : Tally) (b : View) → Agrees t b → Stands t b
+stands t b agrees =
+    let back = IsPermutation-sym (open_jobs t.rows) b.jobs agrees.same in
+    let due : All (λ j. t.now < j.deadline) b.jobs = λ k d lt. omega (arith, agrees.now, (agrees.lawful.well_formed.jobs_open k d lt).not_due) in
+    record {
+      rows = rows_in_time t.now t.rows (All-permutation (λ j. t.now < j.deadline) b.jobs (open_jobs t.rows) back due) agrees.within;
+      settings = cheapest t b agrees;
+    }
