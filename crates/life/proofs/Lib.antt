@@ -8,3 +8,7 @@ pub mod Feeding
 -- a tally and a book that agree, and what is promised at each moment
 pub mod Agreeing
 pub mod Standing
+-- the calls
+pub mod Offering
+pub mod Striking
+pub mod Ticking

@@ -1,0 +1,73 @@
+-- A tick keeps its promise, and leaves a tally and a book that agree.
+use Rattle.std.proofs.Common.{◌≡◌, ◌≢◌, ◌+◌, List, length, take, drop, Option, Some, None, refl, sym, ap, subst, arith}
+use Rattle.std.proofs.lemmas.Bool.Decides.{nat_tests}
+use Rattle.std.proofs.lemmas.List.{take_at}
+use Rattle.schedule.proofs.Theory.{theory}
+use Rattle.book.specs.declared.fault.BookFault.{BookFault}
+use Rattle.book.specs.declared.tick.Entry.{Entry}
+use Rattle.book.specs.declared.tick.Served.{Served}
+use Rattle.book.specs.Book.{View, last_tick}
+use Rattle.book.specs.Settings.{settings_of}
+use Rattle.book.specs.Ticks.{Ticking, entries, shares_of, after_tick, tick_fault, ticking}
+use Rattle.book.specs.Ticks as ticks
+use Rattle.book.proofs.Ticking.{gives_setting, lawful_after}
+use Rattle.life.specs.Events.{tick, served_or, written, served}
+use Rattle.life.specs.Tally.{Tally, with_entries, note_answer}
+use Rattle.life.specs.Promises.{Serves}
+use Rattle.life.proofs.Feeding.{Fed, fed}
+use Rattle.life.proofs.Agreeing.{Agrees, Kept}
+use Rattle.life.proofs.Standing.{in_force_same}
+
+-- a tick that is not refused is before the last
+not_last : (b : View) (list : List Entry) → tick_fault b list ≡ None → b.now ≢ last_tick
+not_last b list none last = grind (arith, nat_tests)
+
+module _ (t : Tally) (b : View) (list : List Entry) (agrees : Agrees t b) where
+  -- the entries of the tick, to the tally's rows
+  abbrev es : List Entry
+  es = entries (shares_of b)
+
+  the_fed : Fed t es (after_tick b).jobs
+  the_fed = fed t b agrees.lawful agrees.now agrees.same agrees.newest agrees.within
+
+  -- they stand in the first places of the list
+  first_places : take (length es) (ticks.with_entries es list) ≡ es
+  first_places = take_at es (drop (length es) list) (length es) refl
+
+  serves : Serves t b (record { setting = settings_of b 0; count = length es }) es
+  serves = record {
+    first = sym (in_force_same b 0 (omega (arith, theory.ticks)));
+    whole = gives_setting b agrees.lawful;
+    counted = refl;
+    to_open = the_fed.to_open;
+  }
+
+  -- the tally and the book after an accepted tick
+  agrees_later : b.now ≢ last_tick → Agrees (record { now = t.now + 1; top = t.top; rows = with_entries es t.rows }) (after_tick b)
+  agrees_later more = record {
+    now = ap (λ n. n + 1) agrees.now;
+    top = agrees.top;
+    same = the_fed.same;
+    newest = the_fed.newest;
+    within = the_fed.within;
+    lawful = lawful_after b agrees.lawful more;
+  }
+
+  -- an answer that is as promised, and a book that agrees with the tally then
+  record Answered (x : Ticking) : Type 0 where
+    serving : (s : Served) → served_or x.answer ≡ served s → Serves t b s (written x.answer x.list)
+    agrees_after : Agrees (note_answer t (record { call = tick list; answer = served_or x.answer; entries = written x.answer x.list }) (served_or x.answer)) x.book
+
+  answered : (o : Option BookFault) → tick_fault b list ≡ o → Answered (ticking o b list)
+  answered (Some f) e = record { serving = λ s is. absurd (cc); agrees_after = agrees }
+  answered None e = record {
+    serving = λ s is.
+        let same : record { setting = settings_of b 0; count = length es } ≡ s = cc in
+        subst (λ xs. Serves t b s xs) (sym first_places) (subst (λ x. Serves t b x es) same serves);
+    agrees_after = subst (λ xs. Agrees (record { now = t.now + 1; top = t.top; rows = with_entries xs t.rows }) (after_tick b)) (sym first_places) (agrees_later (not_last b list e));
+  }
+
+  pub tick_kept : Kept t b (tick list)
+  tick_kept =
+      let a = answered (tick_fault b list) refl in
+      record { answers = a.serving; agrees = a.agrees_after }
