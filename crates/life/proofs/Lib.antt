@@ -12,3 +12,7 @@ pub mod Standing
 pub mod Offering
 pub mod Striking
 pub mod Ticking
+-- the law of whole lives
+pub mod Beginning
+pub mod Law
+pub mod Handling

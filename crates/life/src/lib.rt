@@ -35,6 +35,22 @@ pub enum Response {
     Served(Served),
 }
 
+impl Request {
+    // Makes it of the book. What follows for whole lives, `handle` says.
+    fn make(&self, book: &mut Book, list: &mut [Entry]) -> Result<Response, BookFault>
+        ensures answer { result ≡ (handled book.old self.now list.old).answer }
+        ensures after { book.new ≡ (handled book.old self.now list.old).book }
+        ensures list { list.new ≡ (handled book.old self.now list.old).list }
+    {
+        match *self {
+            Request::Offer(job) => book.offer(job)?,
+            Request::Strike { ticket } => book.strike(ticket)?,
+            Request::Tick => return Ok(Response::Served(book.tick(list)?)),
+        }
+        Ok(Response::Done)
+    }
+}
+
 /// Makes the request of the book. The list is for the entries of a tick; the other requests leave it.
 ///
 /// Refuses what the book refuses.
@@ -48,10 +64,5 @@ pub fn handle(book: &mut Book, request: &Request, list: &mut [Entry]) -> Result<
         EndsIn (longer life (event_of request.now list.old result list.new)) book.new
         × Keeps (longer life (event_of request.now list.old result list.new)) }
 {
-    match *request {
-        Request::Offer(job) => book.offer(job)?,
-        Request::Strike { ticket } => book.strike(ticket)?,
-        Request::Tick => return Ok(Response::Served(book.tick(list)?)),
-    }
-    Ok(Response::Done)
+    request.make(book, list)
 }
