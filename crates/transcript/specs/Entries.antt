@@ -11,11 +11,13 @@ use Rattle.book.specs.declared.tick.Served.{Served}
 use Rattle.book.specs.Book.{View, empty_book}
 use Rattle.book.specs.Calls.{offered, struck}
 use Rattle.book.specs.Ticks.{ticked, entries, shares_of}
+use Rattle.life.specs.declared.Request.{Request}
+use Rattle.life.specs.declared.Request.TheVariants.{Offer, Strike, Tick}
 use Rattle.transcript.specs.declared.fault.BenchFault.{BenchFault}
 use Rattle.transcript.specs.declared.fault.BenchFault.TheVariants.{Book}
 use Rattle.transcript.specs.declared.line.Line.{Line}
 use Rattle.transcript.specs.declared.line.Line.TheVariants.{Offered, Struck, Ticked, Refused}
-use Rattle.transcript.specs.declared.line.Tick.{Tick}
+use Rattle.transcript.specs.declared.line.Tick.{Tick as TickLine}
 use Rattle.transcript.specs.Refusals.{ends_run}
 
 -- an entry of the transcript: a job that the book took, one that it closed, a tick that it served, or a refusal
@@ -26,7 +28,7 @@ pub data Entry : Type 0 where
   refused : (place : ℕ) (fault : BenchFault) → Entry
 
 -- the entry that a tick of the code stands for
-abbrev pub entry_of_tick : Tick → Entry
+abbrev pub entry_of_tick : TickLine → Entry
 entry_of_tick t = served t.now t.setting (take t.count t.list)
 
 -- the entry that a line of the code stands for
@@ -59,6 +61,12 @@ tick_entry b (Err f) = Err f
 abbrev pub passed_on : Result Entry BookFault → Result (Option Entry) BenchFault
 passed_on (Ok e) = Ok (Some e)
 passed_on (Err f) = Err (Book f)
+
+-- what a record asks of the book
+abbrev pub request_by : Content → Request
+request_by (offer t a d w l) = Offer (record { ticket = t; arrival = a; deadline = d; work = w })
+request_by (strike t) = Strike t
+request_by tick = Tick
 
 -- a record worked with a book
 abbrev pub content_step : View → Content → Step
@@ -98,10 +106,6 @@ over_by (Ok e) = false
 over_by (Err f) = ends_run f
 
 -- the code's answers as plain values
-abbrev pub tick_by : Result Tick BookFault → Result Entry BookFault
-tick_by (Ok t) = Ok (entry_of_tick t)
-tick_by (Err f) = Err f
-
 abbrev pub step_by : Result (Option Line) BenchFault → Result (Option Entry) BenchFault
 step_by (Ok None) = Ok None
 step_by (Ok (Some l)) = Ok (Some (entry_of l))

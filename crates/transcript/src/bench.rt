@@ -1,14 +1,15 @@
 // The bench works the records of a file one by one.
 ghost use Rattle.std.specs.Prelude.{◌≡◌, IsAscii};
-ghost use Rattle.book.specs.Ticks.{ticked};
-ghost use Rattle.transcript.specs.Entries.{entry_by, step_by, tick_by, tick_entry, no_entries};
+ghost use Rattle.layout.specs.Content.{content_of};
+ghost use Rattle.transcript.specs.Entries.{entry_by, request_by, step_by};
 ghost use Rattle.std.specs.Iterator.{at_most};
 ghost use Rattle.transcript.specs.Run.{start_of, step_of, passed, lines_left, SaysNext};
 
 use super::fault::BenchFault;
 use super::line::{Line, Tick};
-use book::{Book, BookFault, Entry, Job, PLACES, Served};
+use book::{Book, Entry, Job, PLACES, Served};
 use layout::{Offer, Record};
+use life::{Request, Response, handle};
 use record::{Reader, shown};
 use std::marker::Model;
 use std::str::from_utf8;
@@ -33,20 +34,28 @@ fn text(label: &[u8]) -> &str
     from_utf8(label).unwrap()
 }
 
-// Serves one tick of the book.
-fn tick(book: &mut Book) -> Result<Tick, BookFault>
-    ensures said { tick_by result ≡ tick_entry book.old (ticked book.old no_entries).answer }
-    ensures after { book.new ≡ (ticked book.old no_entries).book }
+// What a record asks of the book.
+fn request_of(said: &Record) -> Request
+    ensures { result ≡ request_by (content_of said.now) }
 {
-    let now = book.now();
-    let mut list = [NO_ENTRY; PLACES];
-    let Served { setting, count } = book.tick(&mut list)?;
-    Ok(Tick {
-        now,
-        setting,
-        list,
-        count,
-    })
+    match *said {
+        Record::Offer(
+            Offer {
+                ticket,
+                arrival,
+                deadline,
+                work,
+                ..
+            },
+        ) => Request::Offer(Job {
+            ticket,
+            arrival,
+            deadline,
+            work,
+        }),
+        Record::Strike { ticket } => Request::Strike { ticket },
+        Record::Tick => Request::Tick,
+    }
 }
 
 /// Works the records of a file one by one with a book.
@@ -92,32 +101,22 @@ impl<'a> Bench<'a> {
         let Some(record) = self.reader.next()? else {
             return Ok(None);
         };
-        Ok(Some(match record {
-            Record::Offer(
-                Offer {
-                    ticket,
-                    arrival,
-                    deadline,
-                    work,
-                    label,
-                },
-            ) => {
-                self.book.offer(Job {
-                    ticket,
-                    arrival,
-                    deadline,
-                    work,
-                })?;
-                Line::Offered {
-                    ticket,
-                    label: text(shown(label, DEFAULT_LABEL)),
-                }
-            }
-            Record::Strike { ticket } => {
-                self.book.strike(ticket)?;
-                Line::Struck { ticket }
-            }
-            Record::Tick => Line::Ticked(tick(&mut self.book)?),
+        let now = self.book.now();
+        let mut list = [NO_ENTRY; PLACES];
+        let response = handle(&mut self.book, &request_of(&record), &mut list)?;
+        Ok(Some(match (record, response) {
+            (Record::Offer(Offer { ticket, label, .. }), Response::Done) => Line::Offered {
+                ticket,
+                label: text(shown(label, DEFAULT_LABEL)),
+            },
+            (Record::Strike { ticket }, Response::Done) => Line::Struck { ticket },
+            (Record::Tick, Response::Served(Served { setting, count })) => Line::Ticked(Tick {
+                now,
+                setting,
+                list,
+                count,
+            }),
+            _ => unreachable!(),
         }))
     }
 }
