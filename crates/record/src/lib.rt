@@ -1,4 +1,4 @@
-//! The reader and the writer of 24-byte records. The crate `layout` has what a record says.
+//! The reader and the writer of 24-byte records, and the numbers in them. The crate `layout` has what a record says.
 #![tactic(auto)]
 
 mod label;
@@ -7,5 +7,6 @@ mod reading;
 mod writing;
 
 pub use label::shown;
+pub use numbers::Numbers;
 pub use reading::Reader;
 pub use writing::write;

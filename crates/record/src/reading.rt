@@ -6,24 +6,25 @@ ghost use Rattle.layout.specs.RoundTrip.{OnlyForm};
 ghost use Rattle.layout.specs.BigEndian.{part};
 
 use super::label::trim;
-use super::numbers::read_number;
-use layout::{ARRIVAL, DEADLINE, Kind, LABEL, Offer, RECORD_LEN, ReadFault, Record, TICKET, WORK};
+use super::numbers::Numbers;
+use layout::{Kind, LABEL, Offer, RECORD_LEN, ReadFault, Record};
 use std::marker::Model;
 
 // What the bytes of an allowed record say.
 fn content_of(kind: Kind, bytes: &[u8; RECORD_LEN]) -> Record<'_>
     ensures { content_of result ≡ content kind bytes.now }
 {
+    let numbers = Numbers::of(bytes);
     match kind {
         Kind::Offer => Record::Offer(Offer {
-            ticket: read_number(&bytes[TICKET..ARRIVAL]) as u16,
-            arrival: read_number(&bytes[ARRIVAL..DEADLINE]),
-            deadline: read_number(&bytes[DEADLINE..WORK]),
-            work: read_number(&bytes[WORK..LABEL]) as u16,
+            ticket: numbers.ticket,
+            arrival: numbers.arrival,
+            deadline: numbers.deadline,
+            work: numbers.work,
             label: trim(&bytes[LABEL..]),
         }),
         Kind::Strike => Record::Strike {
-            ticket: read_number(&bytes[TICKET..ARRIVAL]) as u16,
+            ticket: numbers.ticket,
         },
         Kind::Tick => Record::Tick,
     }

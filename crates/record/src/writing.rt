@@ -5,10 +5,8 @@ ghost use Rattle.layout.specs.Writing.{laid_out, encoded, encoded_by, checked, c
 ghost use Rattle.layout.specs.RoundTrip.{Sized, bare, ReadsAs};
 
 use super::label::is_label;
-use layout::{
-    ARRIVAL, DEADLINE, Kind, LABEL, Offer, RECORD_LEN, Record, TICKET, WORK, WriteFault,
-    WrittenField,
-};
+use super::numbers::Numbers;
+use layout::{Kind, Offer, RECORD_LEN, Record, WriteFault, WrittenField};
 
 // The greatest number that fits six bytes.
 const MAX_TICK: u64 = 0xffff_ffff_ffff;
@@ -38,20 +36,20 @@ const BLANK: Offer<&[u8]> = Offer {
     label: b"      ",
 };
 
-// 24 bytes with these fields: of arrival and deadline the low six bytes. That ticket and work fit two bytes is known where they are read.
+// 24 bytes of the kind with these fields. That ticket and work fit two bytes is known where they are read.
 fn lay_out(kind: Kind, fields: &Offer<&[u8]>) -> [u8; RECORD_LEN]
     requires { length fields.now.label.now ≡ 6 }
     ensures bytes { result ≡ laid_out kind fields.now.ticket fields.now.arrival fields.now.deadline fields.now.work fields.now.label.now }
     ensures sized { (fields.now.ticket < 2 ^ 16) × (fields.now.work < 2 ^ 16) }
 {
-    let mut bytes = [0; RECORD_LEN];
-    bytes[0] = kind.into();
-    bytes[TICKET..ARRIVAL].copy_from_slice(&fields.ticket.to_be_bytes());
-    bytes[ARRIVAL..DEADLINE].copy_from_slice(&fields.arrival.to_be_bytes()[2..]);
-    bytes[DEADLINE..WORK].copy_from_slice(&fields.deadline.to_be_bytes()[2..]);
-    bytes[WORK..LABEL].copy_from_slice(&fields.work.to_be_bytes());
-    bytes[LABEL..].copy_from_slice(fields.label);
-    bytes
+    let numbers = Numbers {
+        ticket: fields.ticket,
+        arrival: fields.arrival,
+        deadline: fields.deadline,
+        work: fields.work,
+    };
+    let label = fields.label.first_chunk().unwrap();
+    numbers.lay_out(kind.into(), label)
 }
 
 // The bytes of the record, where its fields fit them.
