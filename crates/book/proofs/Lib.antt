@@ -24,3 +24,5 @@ pub mod Images
 pub mod WrongRecords
 -- load accepts the images of lawful books, and no others
 pub mod Loads
+-- an image as it is written
+pub mod Saving

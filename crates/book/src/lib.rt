@@ -23,6 +23,7 @@ mod bill;
 mod blocks;
 mod book;
 mod fault;
+mod image;
 mod job;
 mod overload;
 mod settings;

@@ -1,0 +1,86 @@
+// The image of a book: a record of now and the top, then one for each place.
+ghost use Rattle.std.specs.Prelude.{◌≡◌, map, slice_index_or};
+ghost use Rattle.book.specs.Images.{clock_record, job_record, blank_record};
+
+use super::book::Book;
+use super::fault::BookFault;
+use super::job::Job;
+use super::table::PLACES;
+use layout::RECORD_LEN;
+use record::Numbers;
+
+// How many records an image has.
+const RECORDS: usize = 1 + PLACES;
+
+// The bytes of an image.
+const IMAGE_LEN: usize = RECORDS * RECORD_LEN;
+
+// The first byte of the record of now and the top.
+const CLOCK: u8 = 0x43;
+
+// The first byte of the record of an open job.
+const JOB: u8 = 0x4a;
+
+// The record of a place that no job takes.
+const BLANK: [u8; RECORD_LEN] = [0; RECORD_LEN];
+
+// The record of now and the top.
+fn clock_record(now: u64, top: u8) -> [u8; RECORD_LEN]
+    ensures { result ≡ clock_record now top }
+{
+    let numbers = Numbers {
+        ticket: 0,
+        arrival: now,
+        deadline: 0,
+        work: u16::from(top),
+    };
+    numbers.lay_out(CLOCK, &[0; 6])
+}
+
+impl Job {
+    // The record of the open job.
+    fn to_record(&self) -> [u8; RECORD_LEN]
+        ensures { result ≡ job_record self.now }
+    {
+        let numbers = Numbers {
+            ticket: self.ticket,
+            arrival: self.arrival,
+            deadline: self.deadline,
+            work: self.work,
+        };
+        numbers.lay_out(JOB, &[0; 6])
+    }
+}
+
+// The record of the place among the open jobs.
+fn place_record(jobs: &[Job], place: usize) -> [u8; RECORD_LEN]
+    ensures { result ≡ slice_index_or (map job_record jobs.now) place blank_record }
+{
+    match jobs.get(place) {
+        None => BLANK,
+        Some(job) => job.to_record(),
+    }
+}
+
+impl Book {
+    ghost use Rattle.book.specs.Images.{saved};
+
+    /// Writes the image of the book into the first 1560 places of the list.
+    ///
+    /// Refuses a list that has fewer, and leaves it as it was.
+    pub fn save(&self, list: &mut [u8]) -> Result<(), BookFault>
+        ensures answer { result ≡ (saved self.entry.now list.old).answer }
+        ensures list { list.new ≡ (saved self.entry.now list.old).list }
+    {
+        if list.len() < IMAGE_LEN {
+            return Err(BookFault::Short { needed: IMAGE_LEN });
+        }
+        list[..RECORD_LEN].copy_from_slice(&clock_record(self.tick, self.top));
+        let jobs = self.jobs.jobs();
+        for place in 0..PLACES {
+            let start = (1 + place) * RECORD_LEN;
+            list[start..start + RECORD_LEN].copy_from_slice(&place_record(jobs, place));
+        }
+        Ok(())
+    }
+}
