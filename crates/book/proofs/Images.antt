@@ -101,7 +101,7 @@ position_here : {X : Type 0} (p : X → Bool) (x : X) (xs : List X) → p x ≡ 
 position_here p x xs e = grind (arith, nat_tests)
 
 -- where all records are blank, the first is
-first_blank : (k : ℕ) (r : List ℕ) (rs : List (List ℕ)) → not_blank k (r ∷ rs) ≡ None → r ≡ blank_record
+pub first_blank : (k : ℕ) (r : List ℕ) (rs : List (List ℕ)) → not_blank k (r ∷ rs) ≡ None → r ≡ blank_record
 first_blank k r rs e = elim (cases_Bool (bytes_eq r blank_record)) [
   | inl t ↦ (bytes_eq-Decides r blank_record).0 t
   | inr f ↦ absurd (let here = position_here (λ r. not (bytes_eq r blank_record)) r rs (ap not f) in let some : not_blank k (r ∷ rs) ≡ Some (k + 0) = ap (option_map (λ i. k + i)) here in cc)

@@ -24,5 +24,6 @@ pub mod Images
 pub mod WrongRecords
 -- load accepts the images of lawful books, and no others
 pub mod Loads
--- an image as it is written
+-- an image as it is written, and as it is read
 pub mod Saving
+pub mod ImageReading

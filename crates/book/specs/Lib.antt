@@ -14,4 +14,5 @@ pub mod Blocks
 pub mod Bills
 -- the image of a book
 pub mod Images
+pub mod Reading
 pub mod Loads

@@ -10,10 +10,10 @@ use layout::RECORD_LEN;
 use record::Numbers;
 
 // How many records an image has.
-const RECORDS: usize = 1 + PLACES;
+pub(super) const RECORDS: usize = 1 + PLACES;
 
 // The bytes of an image.
-const IMAGE_LEN: usize = RECORDS * RECORD_LEN;
+pub(super) const IMAGE_LEN: usize = RECORDS * RECORD_LEN;
 
 // The first byte of the record of now and the top.
 const CLOCK: u8 = 0x43;
@@ -22,10 +22,10 @@ const CLOCK: u8 = 0x43;
 const JOB: u8 = 0x4a;
 
 // The record of a place that no job takes.
-const BLANK: [u8; RECORD_LEN] = [0; RECORD_LEN];
+pub(super) const BLANK: [u8; RECORD_LEN] = [0; RECORD_LEN];
 
 // The record of now and the top.
-fn clock_record(now: u64, top: u8) -> [u8; RECORD_LEN]
+pub(super) fn clock_record(now: u64, top: u8) -> [u8; RECORD_LEN]
     ensures { result ≡ clock_record now top }
 {
     let numbers = Numbers {
@@ -39,7 +39,7 @@ fn clock_record(now: u64, top: u8) -> [u8; RECORD_LEN]
 
 impl Job {
     // The record of the open job.
-    fn to_record(&self) -> [u8; RECORD_LEN]
+    pub(super) fn to_record(&self) -> [u8; RECORD_LEN]
         ensures { result ≡ job_record self.now }
     {
         let numbers = Numbers {

@@ -25,6 +25,7 @@ mod book;
 mod fault;
 mod image;
 mod job;
+mod loading;
 mod overload;
 mod settings;
 mod table;

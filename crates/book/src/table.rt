@@ -1,7 +1,7 @@
 // The table of the open jobs.
-ghost use Rattle.std.specs.Prelude.{◌≡◌, ◌<◌, ◌≤◌, [], length, map, position, nat_le, All};
-ghost use Rattle.std.specs.List.{filter, remove};
-ghost use Rattle.book.specs.Jobs.{has_ticket, is_open, with_job};
+ghost use Rattle.std.specs.Prelude.{◌≡◌, ◌<◌, ◌≤◌, [], ◌∷◌, ◌++◌, length, map, position, nat_le, All};
+ghost use Rattle.std.specs.List.{filter, list_all, remove};
+ghost use Rattle.book.specs.Jobs.{is_before, has_ticket, is_open, with_job};
 ghost use Rattle.book.specs.Book.{OpenAt, InOrder};
 ghost use Rattle.book.specs.Ticks.{shares, worked, has_work, entries, with_entries};
 
@@ -73,6 +73,13 @@ impl Table {
         self.jobs().iter().any(|job| job.ticket == ticket)
     }
 
+    // Whether all jobs are served before the other one.
+    pub(super) fn all_before(&self, other: &Job) -> bool
+        ensures { result ≡ list_all (λ job. is_before job other.now) self.now }
+    {
+        self.jobs().iter().all(|job| job.is_before(other))
+    }
+
     // The place of the job with the ticket.
     pub(super) fn place_of(&self, ticket: u16) -> Option<usize>
         ensures { result ≡ position (has_ticket ticket) self.now }
@@ -97,6 +104,15 @@ impl Table {
             places,
             count: self.count + 1,
         }
+    }
+
+    // Adds the job after all others.
+    pub(super) fn push(&mut self, job: Job)
+        requires { length self.old < 64 }
+        ensures { self.new ≡ self.old ++ (job ∷ []) }
+    {
+        self.places[self.count] = job;
+        self.count += 1;
     }
 
     // Removes the job at the place.

@@ -1,0 +1,147 @@
+// The book that an image says, and which record of it is wrong.
+ghost use Rattle.std.specs.Prelude.{◌≡◌, ◌≤◌, Some, None, [], length, if◌then◌else◌, map, take_while};
+ghost use Rattle.std.specs.Option.{option_map};
+ghost use Rattle.layout.specs.Layout.{arrival_of, work_of};
+ghost use Rattle.book.specs.Book.{last_tick};
+ghost use Rattle.book.specs.Images.{job_in, is_job_record, is_clock, goes_on, wrong_later, load_fault, book_in};
+ghost use Rattle.book.specs.Reading.{going_on, unless};
+
+use super::book::Book;
+use super::fault::BookFault;
+use super::image::{BLANK, IMAGE_LEN, RECORDS, clock_record};
+use super::job::{HORIZON, Job, LAST_TICK};
+use super::overload::overload_fault;
+use super::table::Table;
+use layout::RECORD_LEN;
+use record::Numbers;
+
+// Now and the top, where the record is that of some.
+fn read_clock(bytes: &[u8; RECORD_LEN]) -> Option<(u64, u8)>
+    ensures { result ≡ (if is_clock bytes.now then Some (arrival_of bytes.now, work_of bytes.now) else None) }
+{
+    let numbers = Numbers::of(bytes);
+    let now = numbers.arrival;
+    let Ok(top) = u8::try_from(numbers.work) else {
+        return None;
+    };
+    if top == 0 || *bytes != clock_record(now, top) {
+        return None;
+    }
+    Some((now, top))
+}
+
+impl Job {
+    ghost use Rattle.book.specs.Images.{job_in, can_be_open};
+
+    // The job that the record says.
+    fn of_record(bytes: &[u8; RECORD_LEN]) -> Job
+        ensures { result ≡ job_in bytes.now }
+    {
+        let numbers = Numbers::of(bytes);
+        Job {
+            ticket: numbers.ticket,
+            arrival: numbers.arrival,
+            deadline: numbers.deadline,
+            work: numbers.work,
+        }
+    }
+
+    // Whether it can be open at now.
+    fn can_be_open(&self, now: u64) -> bool
+        requires { now ≤ last_tick }
+        ensures { result ≡ can_be_open now self.now }
+    {
+        self.ticket > 0
+            && self.work > 0
+            && now < self.deadline
+            && self.deadline <= now + HORIZON
+            && self.deadline <= LAST_TICK
+            && self.arrival < self.deadline
+            && self.deadline <= self.arrival + HORIZON
+    }
+}
+
+// The job that the record says, where it can stand after those of the jobs.
+fn next_job(jobs: &Table, now: u64, bytes: &[u8; RECORD_LEN]) -> Option<Job>
+    requires { now ≤ last_tick }
+    ensures { result ≡ (if goes_on now jobs.now bytes.now then Some (job_in bytes.now) else None) }
+{
+    let job = Job::of_record(bytes);
+    if *bytes != job.to_record() || !job.can_be_open(now) {
+        return None;
+    }
+    if !jobs.all_before(&job) || jobs.is_open(job.ticket) {
+        return None;
+    }
+    Some(job)
+}
+
+// The jobs of the first records, as long as they go on.
+fn going_on(records: &[[u8; RECORD_LEN]], now: u64) -> Table
+    requires in_time { now ≤ last_tick }
+    requires few { length records.now ≤ 64 }
+    ensures { result ≡ going_on now [] records.now }
+{
+    let mut jobs = Table::new();
+    for bytes in records {
+        let Some(job) = next_job(&jobs, now, bytes) else {
+            return jobs;
+        };
+        jobs.push(job);
+    }
+    jobs
+}
+
+// The jobs of the records after the first.
+fn read_jobs(records: &[[u8; RECORD_LEN]], now: u64) -> Result<Table, BookFault>
+    requires in_time { now ≤ last_tick }
+    requires few { length records.now ≤ 64 }
+    ensures { result ≡ unless (option_map BookFault.Image (wrong_later now [] 1 records.now)) (map job_in (take_while is_job_record records.now)) }
+{
+    let jobs = going_on(records, now);
+    let count = jobs.jobs().len();
+    match records[count..].iter().position(|bytes| *bytes != BLANK) {
+        None => Ok(jobs),
+        Some(place) => Err(BookFault::Image {
+            number: 1 + count + place,
+        }),
+    }
+}
+
+// The book that the image says.
+fn read_image(list: &[u8]) -> Result<Book, BookFault>
+    ensures { result ≡ unless (load_fault list.now) (book_in list.now) }
+{
+    if list.len() < IMAGE_LEN {
+        return Err(BookFault::Short { needed: IMAGE_LEN });
+    }
+    let (records, _) = list.as_chunks::<RECORD_LEN>();
+    let Some((now, top)) = read_clock(&records[0]) else {
+        return Err(BookFault::Image { number: 0 });
+    };
+    let jobs = read_jobs(&records[1..RECORDS], now)?;
+    if overload_fault(jobs.jobs(), now, top).is_some() {
+        return Err(BookFault::Image { number: RECORDS });
+    }
+    Ok(Book {
+        tick: now,
+        top,
+        jobs,
+    })
+}
+
+impl Book {
+    ghost use Rattle.book.specs.Images.{loaded};
+
+    /// Makes the book the one that the image in the first 1560 places of the list says.
+    ///
+    /// Refuses a list of fewer places ([`BookFault::Short`]), then the first record that no image of a lawful book, overload allowed, has after those before
+    /// it, by its number from 0, and then an overloaded interval, as number 65 ([`BookFault::Image`]). A refused call leaves the book as it was.
+    pub fn load(&mut self, list: &[u8]) -> Result<(), BookFault>
+        ensures answer { result ≡ (loaded self.old list.now).answer }
+        ensures after { self.new ≡ (loaded self.old list.now).book }
+    {
+        *self = read_image(list)?;
+        Ok(())
+    }
+}
