@@ -36,8 +36,8 @@ pub enum Response {
 }
 
 impl Request {
-    // Makes it of the book. What follows for whole lives, `handle` says.
-    fn make(&self, book: &mut Book, list: &mut [Entry]) -> Result<Response, BookFault>
+    // Applies it to the book. What follows for whole lives, `handle` says.
+    fn apply(&self, book: &mut Book, list: &mut [Entry]) -> Result<Response, BookFault>
         ensures answer { result ≡ (handled book.old self.now list.old).answer }
         ensures after { book.new ≡ (handled book.old self.now list.old).book }
         ensures list { list.new ≡ (handled book.old self.now list.old).list }
@@ -64,5 +64,5 @@ pub fn handle(book: &mut Book, request: &Request, list: &mut [Entry]) -> Result<
         EndsIn (longer life (event_of request.now list.old result list.new)) book.new
         × Keeps (longer life (event_of request.now list.old result list.new)) }
 {
-    request.make(book, list)
+    request.apply(book, list)
 }
