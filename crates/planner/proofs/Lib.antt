@@ -9,3 +9,6 @@ pub mod Queueing
 pub mod Hulls
 -- units and demands, one after the other
 pub mod Runs
+-- the rounds of critical blocks
+pub mod Windows
+pub mod TickLists

@@ -4,3 +4,8 @@ pub mod Plannable
 pub mod Plan
 pub mod Queued
 pub mod Hull
+-- the rounds of critical blocks
+pub mod Pair
+pub mod Ticks
+pub mod Blocks
+pub mod Rounds

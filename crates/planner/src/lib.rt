@@ -28,10 +28,16 @@ ghost use Rattle.schedule.specs.InForce.{horizon, InForce, Same, settings_in_for
 ghost use Rattle.schedule.specs.Placing.{fill};
 ghost use Rattle.planner.specs.Plan.{state_of, HasRoom};
 
+mod blocks;
 mod demands;
 mod hull;
+mod pair;
 mod plan;
+mod rounds;
+mod search;
+mod ticks;
 
+pub use blocks::Block;
 pub use demands::{Demand, Demands};
 use hull::Hull;
 use plan::Plan;

@@ -1,0 +1,19 @@
+-- Critical blocks, as the planner hands them back.
+use Rattle.std.specs.Prelude.{ℕ, List, map, nat_lt}
+use Rattle.std.specs.List.{filter}
+use Rattle.schedule.specs.Demands.{Demand}
+use Rattle.schedule.specs.InForce.{horizon}
+use Rattle.schedule.specs.Blocks.{blocks, Block as Critical}
+use Rattle.planner.specs.declared.blocks.Block.{Block}
+
+-- a critical block as it is handed back: its exact speed as its work and its length, its first tick, and the tick after its last
+abbrev pub told_block : Critical → Block
+told_block c = record { speed = (c.load, c.size); from = c.first; to = c.past }
+
+-- the demands that have work left
+abbrev pub open_demands : List Demand → List Demand
+open_demands ds = filter (λ d. nat_lt 0 d.units) ds
+
+-- the critical blocks of the demands that have work left, in the order of the rounds
+abbrev pub critical_blocks : List Demand → List Block
+critical_blocks ds = map told_block (blocks horizon (open_demands ds))

@@ -1,0 +1,81 @@
+// Pairs of compressed times.
+ghost use Rattle.std.specs.Prelude.{◌≡◌, ◌<◌, ◌≤◌, length};
+ghost use Rattle.schedule.specs.Work.{inside, work};
+
+use super::demands::Demand;
+
+impl Demand {
+    // Whether its window lies inside the interval from low to high.
+    pub(super) fn is_inside(&self, low: u16, high: u16) -> bool
+        ensures { result ≡ inside low high self.now }
+    {
+        low <= self.from && self.to <= high
+    }
+}
+
+// The work of the windows that lie inside the interval from low to high.
+fn work_inside(windows: &[Demand], low: u16, high: u16) -> u32
+    requires { length windows.now ≤ 64 }
+    ensures { result ≡ work windows.now low high }
+{
+    windows
+        .iter()
+        .filter(|window| window.is_inside(low, high))
+        .map(|window| u32::from(window.units))
+        .sum()
+}
+
+// A pair of compressed times, and the work of the windows that lie inside.
+#[derive(Clone, Copy)]
+pub(super) struct Pair {
+    pub(super) low: u16,
+    pub(super) high: u16,
+    pub(super) work: u32,
+    ghost proper: { low < high },
+}
+
+impl Pair {
+    ghost use Rattle.schedule.specs.BestPair.{extent, beats};
+    ghost use Rattle.schedule.specs.Rounds.{between};
+    ghost use Rattle.planner.specs.Pair.{times_of, IsCounted};
+
+    // The pair from low to high, with its work.
+    pub(super) fn new(windows: &[Demand], low: u16, high: u16) -> Pair
+        requires proper { low < high }
+        requires few { length windows.now ≤ 64 }
+        ensures pair { times_of result ≡ record { low = low; high = high } }
+        ensures work { IsCounted windows.now result }
+    {
+        Pair {
+            low,
+            high,
+            work: work_inside(windows, low, high),
+        }
+    }
+
+    // How long it is.
+    pub(super) fn extent(&self) -> u16
+        ensures { result ≡ extent (times_of self.now) }
+    {
+        self.high - self.low
+    }
+
+    // Whether a compressed time lies in it.
+    pub(super) fn has(&self, time: u16) -> bool
+        ensures { result ≡ between (times_of self.now) time }
+    {
+        self.low <= time && time < self.high
+    }
+
+    // Whether it goes before the other: it has more work over length; or as much, and starts earlier; or starts there too, and
+    // ends later.
+    pub(super) fn beats(&self, other: &Pair) -> bool
+        ensures { result ≡ beats self.now.work (times_of self.now) other.now.work (times_of other.now) }
+    {
+        let here = u64::from(self.work) * u64::from(other.extent());
+        let there = u64::from(other.work) * u64::from(self.extent());
+        there < here
+            || here == there
+                && (self.low < other.low || self.low == other.low && other.high < self.high)
+    }
+}

@@ -1,0 +1,59 @@
+// The ticks of a round, and compressed time.
+ghost use Rattle.std.specs.Prelude.{◌≡◌, ℕ, ◌<◌, ◌≤◌, length, slice_index, ◌&&◌, not};
+ghost use Rattle.schedule.specs.Certificate.{listed};
+ghost use Rattle.schedule.specs.Compressed.{compressed};
+ghost use Rattle.schedule.specs.Rounds.{between};
+ghost use Rattle.schedule.specs.Blocks.{first_tick, past_tick};
+ghost use Rattle.planner.specs.Pair.{times_of};
+ghost use Rattle.planner.specs.Ticks.{free_in, marked_in};
+
+use super::pair::Pair;
+
+// The compressed time of each tick, and of the one after the last: the number of free ticks before it.
+pub(super) fn compressed_times(free: &[bool; 256]) -> [u16; 257]
+    ensures { (t : ℕ) → t ≤ 256 → listed result t ≡ compressed (free_in free.now) t }
+{
+    let mut times = [0; 257];
+    for (tick, free) in free.iter().enumerate() {
+        times[tick + 1] = times[tick] + u16::from(*free);
+    }
+    times
+}
+
+// The ticks that a round takes: the free ones whose compressed time lies in its pair.
+pub(super) fn taken_ticks(free: &[bool; 256], times: &[u16; 257], pair: &Pair) -> [bool; 256]
+    ensures { (t : ℕ) → t < 256 → marked_in result t ≡ (free_in free.now t && between (times_of pair.now) (listed times.now t)) }
+{
+    let mut taken = [false; 256];
+    for (tick, free) in free.iter().enumerate() {
+        taken[tick] = *free && pair.has(times[tick]);
+    }
+    taken
+}
+
+// Takes ticks from the free ones.
+pub(super) fn take_ticks(free: &mut [bool; 256], taken: &[bool; 256])
+    ensures { (t : ℕ) → t < 256 → free_in free.new t ≡ (free_in free.old t && not (marked_in taken.now t)) }
+{
+    for (tick, taken) in taken.iter().enumerate() {
+        if *taken {
+            free[tick] = false;
+        }
+    }
+}
+
+// The first of the ticks.
+pub(super) fn first_tick(ticks: &[bool; 256]) -> u16
+    ensures { result ≡ first_tick (marked_in ticks.now) (length ticks.now) }
+{
+    let first = ticks.iter().position(|tick| *tick);
+    first.unwrap_or(256) as u16
+}
+
+// The tick after the last of them.
+pub(super) fn past_tick(ticks: &[bool; 256]) -> u16
+    ensures { result ≡ past_tick (marked_in ticks.now) (length ticks.now) }
+{
+    let last = ticks.iter().rposition(|tick| *tick);
+    last.map_or(0, |tick| tick + 1) as u16
+}
