@@ -12,3 +12,6 @@ pub mod Runs
 -- the rounds of critical blocks
 pub mod Windows
 pub mod TickLists
+pub mod Compressing
+pub mod NextRound
+pub mod Starting

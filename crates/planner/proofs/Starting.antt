@@ -1,0 +1,48 @@
+-- The demands that the first round finds.
+use Rattle.std.proofs.Common.{◌≡◌, ℕ, ◌+◌, ◌<◌, ◌≤◌, Bool, true, false, not, List, [], ◌∷◌, ◌++◌, get_or, set, take, length, map, replicate, nat_lt, inl, inr, refl, sym, ap, subst, ◌∙◌, arith}
+use mathlib.Core.Path.{fun_ext}
+use Rattle.std.specs.List.{filter}
+use Rattle.std.proofs.lemmas.Bool.{cases_lt}
+use Rattle.std.proofs.lemmas.Bool.Decides.{nat_tests}
+use Rattle.std.proofs.lemmas.List.{get_or-replicate, get_or_past, length-replicate, take_more_set, append-nil}
+use Rattle.std.proofs.lemmas.List.Elements.{filter_more}
+use Rattle.std.proofs.lemmas.List.Filters.{length-filter_both}
+use Rattle.schedule.specs.Demands.{Demand, Sound, AllOpen}
+use Rattle.schedule.specs.Compressed.{all_free, NonEmpty}
+use Rattle.schedule.specs.InForce.{horizon}
+use Rattle.schedule.proofs.CompressedLaws.{non_empty_first, non_empty_sound}
+use Rattle.planner.specs.Ticks.{free_in}
+use Rattle.planner.specs.Plannable.{Plannable}
+use Rattle.planner.specs.Blocks.{told_block, open_demands, critical_blocks}
+use Rattle.planner.specs.Rounds.{blocks_to_come, AreLeft}
+
+-- at first all ticks are free
+all_are_free : free_in (replicate 256 true) ≡ all_free
+all_are_free = fun_ext (λ t. elim (cases_lt t 256) [
+  | inl lt ↦ get_or-replicate 256 t true true lt
+  | inr le ↦ get_or_past (replicate 256 true) t true (omega (arith, length-replicate {A = Bool} 256 true))
+])
+
+-- the demands with work left have their windows, and work left
+open_windowed : (m : ℕ) (ds : List Demand) → Sound m ds → NonEmpty m (open_demands ds)
+open_windowed m [] sound = tt
+open_windowed m (d ∷ ds) sound = let rest = open_windowed m ds sound.1 in let here = sound.0 in grind (arith, nat_tests)
+
+open_open : (ds : List Demand) → AllOpen (open_demands ds)
+open_open [] = tt
+open_open (d ∷ ds) = let rest = open_open ds in grind (arith, nat_tests)
+
+pub first_left : (ds : List Demand) → Plannable ds → AreLeft (free_in (replicate 256 true)) (open_demands ds)
+first_left ds plannable =
+    let open_ = λ (d : Demand). nat_lt 0 d.units in
+    let windowed = open_windowed horizon ds plannable.sound in
+    let all_open = open_open ds in
+    rw all_are_free (record {
+      few = omega (arith, length-filter_both open_ (λ d. not (open_ d)) (λ _. refl) ds, plannable.few);
+      windowed = windowed;
+      all_open = all_open;
+      free_left = non_empty_first horizon (open_demands ds) (non_empty_sound horizon (open_demands ds) windowed) all_open;
+    })
+
+pub first_blocks : (ds : List Demand) → blocks_to_come (free_in (replicate 256 true)) (open_demands ds) ≡ critical_blocks ds
+first_blocks ds = rw all_are_free refl

@@ -1,0 +1,20 @@
+use Rattle.std.proofs.Common.{◌≡◌, ◌∙◌, true, take, replicate, sym, ap, subst, arith}
+use Rattle.std.proofs.lemmas.List.{take_all}
+use Rattle.planner.specs.Ticks.{free_in}
+use Rattle.planner.specs.Blocks.{open_demands, critical_blocks}
+use Rattle.planner.specs.Rounds.{blocks_to_come, AreLeft}
+use Rattle.planner.proofs.Starting.{first_left, first_blocks}
+use Rattle.planner.proofs.rounds.Rounds.new.Goals as goal
+
+-- every demand with work left is taken
+all_taken : (c : goal.After-loop-demand) → take c.loop-demand.count c.loop-demand.open ≡ open_demands c.demands.inside.list.now
+all_taken c = c.loop-demand.invariant.left ∙ ap open_demands (take_all _ _ c.loop-demand-test.false)
+
+pub invariant_of-result : goal.invariant_of-result
+invariant_of-result c =
+    (omega (arith, c.loop-demand.invariant.behind, c.demands.invariant.few), subst (AreLeft (free_in (replicate 256 true))) (sym (all_taken c)) (first_left c.demands.inside.list.now c.demands.invariant))
+
+pub returns : goal.returns
+returns c =
+    let open_ = c.demands.inside.list.now in
+    ap (blocks_to_come (free_in (replicate 256 true))) (all_taken c) ∙ first_blocks open_ ∙ ap critical_blocks c.demands.view_is

@@ -1,0 +1,128 @@
+// The rounds of critical blocks: each places demands and takes their ticks, until no demand is left.
+ghost use Rattle.std.specs.Prelude.{◌≡◌, ◌<◌, ◌≤◌, length, map, take, MatchOption, ◌∷◌, []};
+ghost use Rattle.std.specs.List.{AllByRecursion};
+ghost use Rattle.schedule.specs.Certificate.{listed};
+ghost use Rattle.schedule.specs.Compressed.{seen};
+ghost use Rattle.schedule.specs.Rounds.{unplaced};
+ghost use Rattle.planner.specs.Pair.{times_of};
+ghost use Rattle.planner.specs.Blocks.{critical_blocks};
+
+use super::blocks::Block;
+use super::demands::{Demand, Demands};
+use super::pair::Pair;
+use super::search::best_pair;
+use super::ticks::{compressed_times, first_tick, past_tick, take_ticks, taken_ticks};
+use std::marker::Model;
+
+// What stands in a place that no demand takes.
+const NO_DEMAND: Demand = Demand {
+    from: 0,
+    to: 0,
+    units: 0,
+};
+
+impl Demand {
+    // The demand as seen in compressed time.
+    fn seen(&self, times: &[u16; 257]) -> Demand
+        requires { (self.now.from ≤ 256) × (self.now.to ≤ 256) }
+        ensures { result ≡ seen (listed times.now) self.now }
+    {
+        Demand {
+            from: times[usize::from(self.from)],
+            to: times[usize::from(self.to)],
+            units: self.units,
+        }
+    }
+}
+
+// The demands in compressed time, in the first places.
+fn windows(demands: &[Demand], times: &[u16; 257]) -> [Demand; 64]
+    requires few { length demands.now ≤ 64 }
+    requires within { AllByRecursion (λ d. (d.from < d.to) × (d.to ≤ 256)) demands.now }
+    ensures { take (length demands.now) result ≡ map (seen (listed times.now)) demands.now }
+{
+    let mut windows = [NO_DEMAND; 64];
+    for (place, demand) in demands.iter().enumerate() {
+        windows[place] = demand.seen(times);
+    }
+    windows
+}
+
+// Places the demands that lie inside the pair: the others go to the first places, and their number is answered.
+fn place(demands: &mut [Demand], times: &[u16; 257], pair: &Pair) -> usize
+    requires within { AllByRecursion (λ d. (d.from < d.to) × (d.to ≤ 256)) demands.old }
+    ensures left { take result demands.new ≡ unplaced (listed times.now) (times_of pair.now) demands.old }
+    ensures count { result ≤ length demands.new }
+{
+    let mut count = 0;
+    for place in 0..demands.len() {
+        let demand = demands[place];
+        if !demand.seen(times).is_inside(pair.low, pair.high) {
+            demands[count] = demand;
+            count += 1;
+        }
+    }
+    count
+}
+
+// The rounds to come, which answer critical blocks.
+#[derive(Drop)]
+pub(super) struct Rounds {
+    // Which ticks are free.
+    free: [bool; 256],
+    // The demands that are not yet placed.
+    demands: [Demand; 64],
+    // How many they are: they stand in the first places, and what the others hold means nothing.
+    count: usize,
+}
+
+impl Model for Rounds {
+    ghost use Rattle.std.specs.Prelude.{◌≤◌, List, take};
+    ghost use Rattle.planner.specs.declared.blocks.Block.{Block};
+    ghost use Rattle.planner.specs.Ticks.{free_in};
+    ghost use Rattle.planner.specs.Rounds.{blocks_to_come, AreLeft};
+
+    ghost Value = { List Block };
+
+    ghost view = { λ r. blocks_to_come (free_in r.free) (take r.count r.demands) };
+
+    ghost invariant = { λ r. (r.count ≤ 64) × AreLeft (free_in r.free) (take r.count r.demands) };
+}
+
+impl Rounds {
+    // The rounds of the demands that have work left.
+    pub(super) fn new(demands: &Demands) -> Rounds
+        ensures { result ≡ critical_blocks demands.now }
+    {
+        let mut open = [NO_DEMAND; 64];
+        let mut count = 0;
+        for demand in demands.list {
+            if demand.units > 0 {
+                open[count] = *demand;
+                count += 1;
+            }
+        }
+        Rounds {
+            free: [true; 256],
+            demands: open,
+            count,
+        }
+    }
+
+    // The block of the next round, or none where every demand is placed.
+    pub(super) fn next_block(&mut self) -> Option<Block>
+        ensures { MatchOption result (self.old ≡ []) (λ block. self.old ≡ block ∷ self.new) }
+    {
+        let times = compressed_times(&self.free);
+        let windows = windows(&self.demands[..self.count], &times);
+        let pair = best_pair(&windows[..self.count])?;
+        let taken = taken_ticks(&self.free, &times, &pair);
+        take_ticks(&mut self.free, &taken);
+        self.count = place(&mut self.demands[..self.count], &times, &pair);
+        Some(Block {
+            speed: (pair.work, pair.extent()),
+            from: first_tick(&taken),
+            to: past_tick(&taken),
+        })
+    }
+}
