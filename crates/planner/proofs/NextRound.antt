@@ -1,18 +1,17 @@
 -- What the next round answers, and what it leaves.
-use Rattle.std.proofs.Common.{◌≡◌, ℕ, ◌+◌, ◌<◌, ◌≤◌, Bool, not, ◌&&◌, List, [], ◌∷◌, length, map, Option, None, Some, refl, sym, ap, ap₂, ◌∙◌, subst, arith}
-use Rattle.std.specs.List.{filter}
+use Rattle.std.proofs.Common.{◌≡◌, ℕ, ◌<◌, ◌≤◌, Bool, not, ◌&&◌, List, [], ◌∷◌, length, map, Option, None, Some, refl, sym, ap, ap₂, ◌∙◌, subst, arith}
 use Rattle.std.proofs.ByRecursion.{all_kept_by}
 use Rattle.std.proofs.lemmas.List.Filters.{length-filter_both}
 use Rattle.schedule.specs.Certificate.{listed}
-use Rattle.schedule.specs.Demands.{Demand, Sound, AllOpen}
+use Rattle.schedule.specs.Demands.{Demand}
 use Rattle.schedule.specs.Work.{inside}
 use Rattle.schedule.specs.InForce.{horizon}
-use Rattle.schedule.specs.Compressed.{compressed, seen, all_free, NonEmpty, windows}
+use Rattle.schedule.specs.Compressed.{compressed, seen, NonEmpty, windows}
 use Rattle.schedule.specs.BestPair.{Pair, best_pair, pair_work, extent}
 use Rattle.schedule.specs.Rounds.{unplaced, taken, still_free, between, Rounds, pairs}
 use Rattle.schedule.specs.Blocks.{block, blocks_of, first_tick, past_tick}
 use Rattle.schedule.proofs.CompressedLaws.{non_empty_after, open_unplaced}
-use Rattle.schedule.proofs.RoundsEnd.{pairs_rounds, round_within, round_fewer}
+use Rattle.schedule.proofs.RoundsEnd.{pairs_rounds, round_within}
 use Rattle.schedule.proofs.BlockFacts.{rounds_unique}
 use Rattle.schedule.proofs.Theory.{theory}
 use Rattle.planner.specs.Pair.{best_of}

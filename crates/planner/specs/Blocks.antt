@@ -1,5 +1,5 @@
 -- Critical blocks, as the planner hands them back.
-use Rattle.std.specs.Prelude.{ℕ, List, map, nat_lt}
+use Rattle.std.specs.Prelude.{List, map, nat_lt}
 use Rattle.std.specs.List.{filter}
 use Rattle.schedule.specs.Demands.{Demand}
 use Rattle.schedule.specs.InForce.{horizon}

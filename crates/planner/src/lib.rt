@@ -1,4 +1,4 @@
-//! The planner: it makes the settings in force for demands.
+//! The planner: it makes the settings in force for demands, and their critical blocks.
 //!
 //! The units of the demands are placed one by one, in order of deadline, each at the least loaded tick of its hull. The hull of
 //! a window is where room can be made for one unit more of it: it goes from the last tick up to the window's start that has no
@@ -16,6 +16,15 @@
 //!
 //! `queue::TickQueue` holds the ticks of a hull. A unit costs a take and a put there, and a pass over the ticks between its place
 //! and the start of its window. Nothing is taken from a heap of memory.
+//!
+//! Critical blocks come in rounds. Compressed time counts the free ticks only, and at first all ticks are free. Each round searches
+//! for the pair of compressed times with the greatest work over length, places the demands inside, and takes the free ticks
+//! between: these are the next block.
+//!
+//! ```text
+//! // speed (3, 2) at 0..2, then speed (1, 1) at 2..3
+//! let blocks = critical_blocks(&demands);
+//! ```
 //!
 //! No top is known here, and the settings are as great as the demands need. Where no interval is overloaded, they stay within
 //! the top.
@@ -37,7 +46,7 @@ mod rounds;
 mod search;
 mod ticks;
 
-pub use blocks::Block;
+pub use blocks::{Block, Blocks, critical_blocks};
 pub use demands::{Demand, Demands};
 use hull::Hull;
 use plan::Plan;

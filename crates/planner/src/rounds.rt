@@ -5,6 +5,7 @@ ghost use Rattle.schedule.specs.Certificate.{listed};
 ghost use Rattle.schedule.specs.Compressed.{seen};
 ghost use Rattle.schedule.specs.Rounds.{unplaced};
 ghost use Rattle.planner.specs.Pair.{times_of};
+ghost use Rattle.planner.specs.Plannable.{Plannable};
 ghost use Rattle.planner.specs.Blocks.{critical_blocks};
 
 use super::blocks::Block;
@@ -49,7 +50,7 @@ fn windows(demands: &[Demand], times: &[u16; 257]) -> [Demand; 64]
 }
 
 // Places the demands that lie inside the pair: the others go to the first places, and their number is answered.
-fn place(demands: &mut [Demand], times: &[u16; 257], pair: &Pair) -> usize
+fn place_inside(demands: &mut [Demand], times: &[u16; 257], pair: &Pair) -> usize
     requires within { AllByRecursion (λ d. (d.from < d.to) × (d.to ≤ 256)) demands.old }
     ensures left { take result demands.new ≡ unplaced (listed times.now) (times_of pair.now) demands.old }
     ensures count { result ≤ length demands.new }
@@ -92,7 +93,8 @@ impl Model for Rounds {
 impl Rounds {
     // The rounds of the demands that have work left.
     pub(super) fn new(demands: &Demands) -> Rounds
-        ensures { result ≡ critical_blocks demands.now }
+        ensures blocks { result ≡ critical_blocks demands.now }
+        ensures plannable { Plannable demands.now }
     {
         let mut open = [NO_DEMAND; 64];
         let mut count = 0;
@@ -118,7 +120,7 @@ impl Rounds {
         let pair = best_pair(&windows[..self.count])?;
         let taken = taken_ticks(&self.free, &times, &pair);
         take_ticks(&mut self.free, &taken);
-        self.count = place(&mut self.demands[..self.count], &times, &pair);
+        self.count = place_inside(&mut self.demands[..self.count], &times, &pair);
         Some(Block {
             speed: (pair.work, pair.extent()),
             from: first_tick(&taken),

@@ -1,4 +1,4 @@
-use Rattle.std.proofs.Common.{◌≡◌, ◌∙◌, length, length-set, arith, rules}
+use Rattle.std.proofs.Common.{◌∙◌, length-set, arith}
 use Rattle.planner.proofs.TickLists.{times_fit, times_more}
 use Rattle.planner.proofs.ticks.compressed_times.Goals as goal
 

@@ -1,7 +1,5 @@
 use Rattle.std.proofs.Common.{◌∙◌, ap, sym, rules}
 use Rattle.std.specs.Option.{unwrap_or}
-use Rattle.schedule.specs.Blocks.{first_tick}
-use Rattle.planner.specs.Ticks.{marked_in}
 use Rattle.planner.proofs.TickLists.{FirstMark, first_found}
 use Rattle.planner.proofs.ticks.first_tick.Goals as goal
 

@@ -14,7 +14,6 @@ pub invariant_of-result : goal.invariant_of-result
 invariant_of-result c =
     (omega (arith, c.loop-demand.invariant.behind, c.demands.invariant.few), subst (AreLeft (free_in (replicate 256 true))) (sym (all_taken c)) (first_left c.demands.inside.list.now c.demands.invariant))
 
-pub returns : goal.returns
-returns c =
-    let open_ = c.demands.inside.list.now in
-    ap (blocks_to_come (free_in (replicate 256 true))) (all_taken c) ∙ first_blocks open_ ∙ ap critical_blocks c.demands.view_is
+pub returns-clause-blocks : goal.returns-clause-blocks
+returns-clause-blocks c =
+    ap (blocks_to_come (free_in (replicate 256 true))) (all_taken c) ∙ first_blocks c.demands.inside.list.now ∙ ap critical_blocks c.demands.view_is

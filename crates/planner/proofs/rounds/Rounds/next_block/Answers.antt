@@ -1,6 +1,6 @@
-use Rattle.std.proofs.Common.{◌≡◌, ◌<◌, ◌≤◌, ◌∙◌, ◌++◌, take, drop, length, map, sym, ap, subst, rules, arith}
+use Rattle.std.proofs.Common.{◌≡◌, ◌<◌, ◌∙◌, ◌++◌, take, drop, length, map, sym, ap, subst, rules, arith}
 use Rattle.std.specs.List.{AllByRecursion}
-use Rattle.std.proofs.lemmas.List.{length-take-le, take-append-le}
+use Rattle.std.proofs.lemmas.List.{take-append-le}
 use Rattle.schedule.specs.Certificate.{listed}
 use Rattle.schedule.specs.InForce.{horizon}
 use Rattle.schedule.specs.Compressed.{seen, compressed, windows, NonEmpty}
@@ -8,7 +8,7 @@ use Rattle.schedule.proofs.Theory.{theory}
 use Rattle.planner.specs.Pair.{times_of, best_of, IsCounted}
 use Rattle.planner.specs.Ticks.{free_in}
 use Rattle.planner.proofs.Compressing.{windows_by, windows_first, windows_proper}
-use Rattle.planner.proofs.NextRound.{Steps, no_round, steps_leave, steps_block}
+use Rattle.planner.proofs.NextRound.{Steps, steps_leave, steps_block}
 use Rattle.planner.proofs.rounds.Rounds.next_block.Goals as goal
 
 pub windows-windows-requires-clause-within : goal.windows-windows-requires-clause-within
@@ -25,8 +25,8 @@ best_pair-requires-clause-proper c =
     ∙ windows_by free times c.compressed_times-times.ensures ds (subst (λ m. NonEmpty m ds) theory.ticks c.self.invariant.1.windowed) in
     subst (AllByRecursion (λ w. w.from < w.to)) (sym are) (windows_proper (compressed free horizon) (windows free ds) c.self.invariant.1.free_left)
 
-pub place-self-inside-requires : goal.place-self-inside-requires
-place-self-inside-requires c = record { within = subst (λ n. NonEmpty n (take c.self.inside.count c.self.inside.demands)) theory.ticks c.self.invariant.1.windowed }
+pub place_inside-self-inside-requires : goal.place_inside-self-inside-requires
+place_inside-self-inside-requires c = record { within = subst (λ n. NonEmpty n (take c.self.inside.count c.self.inside.demands)) theory.ticks c.self.invariant.1.windowed }
 
 windows_are : (c : goal.After-past_tick) → take c.self.inside.count c.windows-windows.result ≡ map (seen (listed c.compressed_times-times.result)) (take c.self.inside.count c.self.inside.demands)
 windows_are c =
@@ -34,7 +34,7 @@ windows_are c =
     windows_first (listed c.compressed_times-times.result) c.self.inside.count c.self.inside.demands c.windows-windows.result (omega (arith, c.self.invariant.0)) c.windows-windows.ensures
 
 steps : (c : goal.After-past_tick) → Steps c.self.inside.free (take c.self.inside.count c.self.inside.demands) c.compressed_times-times.result (times_of c.in_ok-pair.pair)
-    c.taken_ticks-taken.result c.take_ticks.new.free (take c.place-self-inside.result c.place-self-inside.new.demands)
+    c.taken_ticks-taken.result c.take_ticks.new.free (take c.place_inside-self-inside.result c.place_inside-self-inside.new.demands)
 steps c = record {
   before = c.self.invariant.1;
   size = c.self.told;
@@ -44,17 +44,17 @@ steps c = record {
   marked = c.taken_ticks-taken.ensures;
   free_long = c.take_ticks.array_long;
   freed = c.take_ticks.ensures;
-  placed = c.place-self-inside.ensures.left;
+  placed = c.place_inside-self-inside.ensures.left;
 }
 
 -- what is left stands in the first places
-left : (c : goal.After-past_tick) → take c.place-self-inside.result (c.place-self-inside.new.demands ++ drop c.self.inside.count c.self.inside.demands) ≡ take c.place-self-inside.result c.place-self-inside.new.demands
-left c = take-append-le _ _ _ c.place-self-inside.ensures.count
+left : (c : goal.After-past_tick) → take c.place_inside-self-inside.result (c.place_inside-self-inside.new.demands ++ drop c.self.inside.count c.self.inside.demands) ≡ take c.place_inside-self-inside.result c.place_inside-self-inside.new.demands
+left c = take-append-le _ _ _ c.place_inside-self-inside.ensures.count
 
 pub invariant_of-self : goal.invariant_of-self
 invariant_of-self c =
-    let same : length c.place-self-inside.new.demands ≡ length (take c.self.inside.count c.self.inside.demands) = c.place-self-inside.auto.demands in
-    (omega (arith, c.place-self-inside.ensures.count, c.self.invariant.1.few), rw (left c) (steps_leave _ _ _ _ _ _ _ (steps c)))
+    let same : length c.place_inside-self-inside.new.demands ≡ length (take c.self.inside.count c.self.inside.demands) = c.place_inside-self-inside.auto.demands in
+    (omega (arith, c.place_inside-self-inside.ensures.count, c.self.invariant.1.few), rw (left c) (steps_leave _ _ _ _ _ _ _ (steps c)))
 
 pub returns : goal.returns
 returns c =

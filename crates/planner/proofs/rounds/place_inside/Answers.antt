@@ -4,8 +4,8 @@ use Rattle.schedule.specs.Certificate.{listed}
 use Rattle.schedule.specs.Compressed.{seen}
 use Rattle.schedule.specs.Demands.{Demand}
 use Rattle.schedule.specs.Work.{inside}
-use Rattle.planner.proofs.rounds.place.Goals as goal
-use Rattle.planner.proofs.rounds.place.Goals.{then-not-is_inside, else-not-is_inside}
+use Rattle.planner.proofs.rounds.place_inside.Goals as goal
+use Rattle.planner.proofs.rounds.place_inside.Goals.{then-not-is_inside, else-not-is_inside}
 
 pub loop-place-preserved : goal.loop-place-preserved
 loop-place-preserved c =
