@@ -22,6 +22,7 @@
 mod bill;
 mod blocks;
 mod book;
+mod demands;
 mod fault;
 mod image;
 mod job;

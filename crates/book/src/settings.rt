@@ -6,36 +6,13 @@ ghost use Rattle.book.specs.Demands.{demands};
 ghost use Rattle.book.specs.Book.{OpenAt, InOrder};
 
 use super::book::Book;
+use super::demands::{NO_DEMAND, demands_of};
 use super::fault::BookFault;
 use super::job::Job;
 use super::table::PLACES;
-use planner::{Demand, Demands};
 
 // How many settings there are: one for each tick from now on.
 const SETTINGS: usize = 256;
-
-// What stands in a place that no demand takes.
-const NO_DEMAND: Demand = Demand {
-    from: 0,
-    to: 0,
-    units: 0,
-};
-
-impl Job {
-    ghost use Rattle.book.specs.Demands.{demand};
-
-    // What the job demands, seen from now.
-    fn demand(&self, now: u64) -> Demand
-        requires { OpenAt now self.now }
-        ensures { result ≡ demand now self.now }
-    {
-        Demand {
-            from: self.start(now) as u16,
-            to: self.end(now) as u16,
-            units: self.work,
-        }
-    }
-}
 
 // The settings in force for open jobs.
 pub(super) fn settings_in_force(jobs: &[Job], now: u64) -> [u32; 256]
@@ -45,12 +22,8 @@ pub(super) fn settings_in_force(jobs: &[Job], now: u64) -> [u32; 256]
     ensures settings { Same horizon (listed result) (settings_in_force (demands now jobs.now)) }
     ensures in_force { InForce horizon (demands now jobs.now) (listed result) }
 {
-    let mut demands = [NO_DEMAND; PLACES];
-    for (place, job) in jobs.iter().enumerate() {
-        demands[place] = job.demand(now);
-    }
-    let demands = Demands::new(&demands[..jobs.len()]).unwrap();
-    planner::settings(&demands)
+    let mut places = [NO_DEMAND; PLACES];
+    planner::settings(&demands_of(&mut places, jobs, now))
 }
 
 impl Book {

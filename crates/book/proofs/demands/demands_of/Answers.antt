@@ -3,12 +3,12 @@ use Rattle.std.proofs.Math.Seq.{take-length}
 use Rattle.planner.specs.Plannable.{Plannable}
 use Rattle.book.specs.Demands.{demands}
 use Rattle.book.proofs.Planning.{plannable-demands}
-use Rattle.book.proofs.settings.settings_in_force.Goals as goal
+use Rattle.book.proofs.demands.demands_of.Goals as goal
 
-pub unwrap-demands-requires : goal.unwrap-demands-requires
-unwrap-demands-requires c =
+pub unwrap-requires : goal.unwrap-requires
+unwrap-requires c =
     let js = c.args.jobs.now in
     let done : c.loop-place.place ≡ length js = omega arith in
-    let all : take (length js) c.loop-place.demands ≡ demands c.args.now js =
-    subst (λ k. take k c.loop-place.demands ≡ demands c.args.now (take k js)) done c.loop-place.invariant ∙ ap (demands c.args.now) (take-length js) in
+    let all : take (length js) c.loop-place.places ≡ demands c.args.now js =
+    subst (λ k. take k c.loop-place.places ≡ demands c.args.now (take k js)) done c.loop-place.invariant ∙ ap (demands c.args.now) (take-length js) in
     c.new.ensures.some.1 (subst Plannable (sym all) (plannable-demands c.args.now js c.requires.few c.requires.in_order c.requires.open))

@@ -1,6 +1,0 @@
-use Rattle.std.proofs.Common.{◌≡◌, take}
-use Rattle.book.specs.Demands.{demands}
-use Rattle.book.proofs.settings.settings_in_force.Given as goal
-
-abbrev pub invariant-loop-place : goal.invariant-loop-place
-invariant-loop-place l = take l.place l.demands ≡ demands l.now (take l.place l.jobs)

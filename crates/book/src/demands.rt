@@ -1,0 +1,48 @@
+// What the open jobs demand, seen from now.
+ghost use Rattle.std.specs.Prelude.{◌≡◌, ◌≤◌, length, All};
+ghost use Rattle.book.specs.Demands.{demands};
+ghost use Rattle.book.specs.Book.{OpenAt, InOrder};
+
+use super::job::Job;
+use super::table::PLACES;
+use planner::{Demand, Demands};
+
+// What stands in a place that no demand takes.
+pub(super) const NO_DEMAND: Demand = Demand {
+    from: 0,
+    to: 0,
+    units: 0,
+};
+
+impl Job {
+    ghost use Rattle.book.specs.Demands.{demand};
+
+    // What the job demands, seen from now.
+    fn demand(&self, now: u64) -> Demand
+        requires { OpenAt now self.now }
+        ensures { result ≡ demand now self.now }
+    {
+        Demand {
+            from: self.start(now) as u16,
+            to: self.end(now) as u16,
+            units: self.work,
+        }
+    }
+}
+
+// What the jobs demand, in these places.
+pub(super) fn demands_of<'a>(
+    places: &'a mut [Demand; PLACES],
+    jobs: &[Job],
+    now: u64,
+) -> Demands<'a>
+    requires few { length jobs.now ≤ 64 }
+    requires in_order { InOrder jobs.now }
+    requires open { All (OpenAt now) jobs.now }
+    ensures { result ≡ demands now jobs.now }
+{
+    for (place, job) in jobs.iter().enumerate() {
+        places[place] = job.demand(now);
+    }
+    Demands::new(&places[..jobs.len()]).unwrap()
+}
