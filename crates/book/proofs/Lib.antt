@@ -13,6 +13,8 @@ pub mod Offering
 pub mod Planning
 pub mod Copying
 pub mod Billing
+-- the critical blocks
+pub mod CriticalBlocks
 -- the ready jobs of a tick, and serving them
 pub mod Ready
 pub mod Serving

@@ -1,4 +1,16 @@
 // The critical blocks of a book.
+ghost use Rattle.std.specs.Prelude.{◌≡◌, ◌+◌, ◌≤◌, OnOk};
+ghost use Rattle.schedule.specs.InForce.{horizon};
+ghost use Rattle.schedule.specs.Theory.{Blocked};
+ghost use Rattle.book.specs.Demands.{demands};
+ghost use Rattle.book.specs.Book.{last_tick};
+ghost use Rattle.book.specs.Blocks.{blocked};
+
+use super::book::Book;
+use super::demands::{NO_DEMAND, demands_of};
+use super::fault::BookFault;
+use super::table::PLACES;
+use planner::critical_blocks;
 
 /// A critical block: ticks with the same exact speed.
 #[derive(Clone, Copy, PartialEq, Eq, Debug)]
@@ -9,4 +21,40 @@ pub struct Block {
     pub start: u64,
     /// The tick after the last.
     pub end: u64,
+}
+
+impl Block {
+    // A block whose ticks count from now.
+    fn from_now(block: &planner::Block, now: u64) -> Block
+        requires { now ≤ last_tick }
+        ensures { result ≡ record { speed = block.now.speed; start = now + block.now.from; end = now + block.now.to } }
+    {
+        Block {
+            speed: block.speed,
+            start: now + u64::from(block.from),
+            end: now + u64::from(block.to),
+        }
+    }
+}
+
+impl Book {
+    /// Writes the critical blocks into the first places of the list, in the order of the rounds, and answers how many there are.
+    ///
+    /// Refuses a list of fewer than 64 places, and leaves it as it was.
+    pub fn blocks(&self, list: &mut [Block]) -> Result<usize, BookFault>
+        ensures answer { result ≡ (blocked self.entry.now list.old).answer }
+        ensures list { list.new ≡ (blocked self.entry.now list.old).list }
+        ensures critical { OnOk result (Blocked horizon (demands self.entry.now.now self.entry.now.jobs)) }
+    {
+        if list.len() < PLACES {
+            return Err(BookFault::Short { needed: PLACES });
+        }
+        let mut places = [NO_DEMAND; PLACES];
+        let demands = demands_of(&mut places, self.jobs.jobs(), self.tick);
+        let blocks = critical_blocks(&demands);
+        for (place, block) in blocks.list().iter().enumerate() {
+            list[place] = Block::from_now(block, self.tick);
+        }
+        Ok(blocks.list().len())
+    }
 }
