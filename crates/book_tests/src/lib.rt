@@ -1,9 +1,11 @@
-//! Tests of the book: each refusal at its edges, the order of the open jobs, overloads against a search of another kind, and what is
-//! told of its faults.
+//! Tests of the book: each refusal at its edges, the order of the open jobs, overloads against a search of another kind, critical
+//! blocks, and what is told of its faults.
 #![tactic(auto)]
 
 #[cfg(test)]
 mod bill;
+#[cfg(test)]
+mod blocks;
 #[cfg(test)]
 mod fields;
 #[cfg(test)]

@@ -21,7 +21,7 @@ pub(super) fn book_at(rt: &impl Abort, now: u64, top: u16) -> Book {
     book
 }
 
-// A book at 0 with the top and these jobs.
+// A book at 0 with the top and these open jobs.
 pub(super) fn book_of(rt: &impl Abort, top: u16, jobs: &[Job]) -> Book {
     let mut book = book_at(rt, 0, top);
     for job in jobs {

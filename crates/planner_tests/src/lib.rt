@@ -1,6 +1,9 @@
-//! Tests of the planner: small books with settings that a search found, full ones, and lists that no settings are made for.
+//! Tests of the planner: small books with settings that a search found, full ones, lists that no settings are made for, and
+//! critical blocks.
 #![tactic(auto)]
 
+#[cfg(test)]
+mod blocks;
 #[cfg(test)]
 mod full;
 #[cfg(test)]
