@@ -9,6 +9,8 @@ mod blocks;
 #[cfg(test)]
 mod fields;
 #[cfg(test)]
+mod images;
+#[cfg(test)]
 mod overload;
 #[cfg(test)]
 mod places;

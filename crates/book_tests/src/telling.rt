@@ -32,6 +32,7 @@ fn each_fault_has_its_number_and_value(rt: HostRuntime) {
         11,
         281_474_976_710_655,
     );
+    check_told(&rt, BookFault::Image { number: 65 }, 13, 65);
 }
 
 #[test]
