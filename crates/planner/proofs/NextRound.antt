@@ -14,6 +14,7 @@ use Rattle.schedule.proofs.CompressedLaws.{non_empty_after, open_unplaced}
 use Rattle.schedule.proofs.RoundsEnd.{pairs_rounds, round_within}
 use Rattle.schedule.proofs.BlockFacts.{rounds_unique}
 use Rattle.schedule.proofs.Theory.{theory}
+use Rattle.planner.specs.declared.blocks.Block.{Block}
 use Rattle.planner.specs.Pair.{best_of}
 use Rattle.planner.specs.Ticks.{free_in, marked_in}
 use Rattle.planner.specs.Blocks.{told_block}
@@ -97,11 +98,11 @@ module _ (xs : List Bool) (ds : List Demand) (times : List ℕ) (p : Pair) (mark
   steps_leave = rw (free_are, rest_are) next.left
 
   -- the block that the code makes of them
-  pub steps_block : (load size first past : ℕ) → load ≡ pair_work (map (seen (listed times)) ds) p → size ≡ extent p → first ≡ first_tick (marked_in marks) (length marks)
-      → past ≡ past_tick (marked_in marks) (length marks) → blocks_to_come (free_in xs) ds ≡ record { speed = (load, size); from = first; to = past } ∷ blocks_to_come (free_in ys) es
-  steps_block load size first past loads sizes firsts pasts =
+  pub steps_block : (b : Block) → b.speed ≡ (pair_work (map (seen (listed times)) ds) p, extent p) → b.from ≡ first_tick (marked_in marks) (length marks)
+      → b.to ≡ past_tick (marked_in marks) (length marks) → blocks_to_come (free_in xs) ds ≡ b ∷ blocks_to_come (free_in ys) es
+  steps_block b speed first past =
       let long : length marks ≡ horizon = steps.marks_long ∙ sym theory.ticks in
-      let work_is : load ≡ pair_work (windows (free_in xs) ds) p = loads ∙ ap (λ ws. pair_work ws p) windows_are in
-      let first_is : first ≡ first_tick (taken (free_in xs) p) horizon = firsts ∙ ap₂ first_tick taken_are long in
-      let past_is : past ≡ past_tick (taken (free_in xs) p) horizon = pasts ∙ ap₂ past_tick taken_are long in
-      next.block_is ∙ sym (λ i. record { speed = (work_is i, sizes i); from = first_is i; to = past_is i } ∷ blocks_to_come (free_are i) (rest_are i))
+      let speed_is : b.speed ≡ (pair_work (windows (free_in xs) ds) p, extent p) = speed ∙ ap (λ ws. (pair_work ws p, extent p)) windows_are in
+      let first_is : b.from ≡ first_tick (taken (free_in xs) p) horizon = first ∙ ap₂ first_tick taken_are long in
+      let past_is : b.to ≡ past_tick (taken (free_in xs) p) horizon = past ∙ ap₂ past_tick taken_are long in
+      next.block_is ∙ sym (λ i. record { speed = speed_is i; from = first_is i; to = past_is i } ∷ blocks_to_come (free_are i) (rest_are i))

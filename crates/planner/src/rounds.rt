@@ -3,8 +3,11 @@ ghost use Rattle.std.specs.Prelude.{◌≡◌, ◌<◌, ◌≤◌, length, map, 
 ghost use Rattle.std.specs.List.{AllByRecursion};
 ghost use Rattle.schedule.specs.Certificate.{listed};
 ghost use Rattle.schedule.specs.Compressed.{seen};
+ghost use Rattle.schedule.specs.BestPair.{extent};
 ghost use Rattle.schedule.specs.Rounds.{unplaced};
+ghost use Rattle.schedule.specs.Blocks.{first_tick, past_tick};
 ghost use Rattle.planner.specs.Pair.{times_of};
+ghost use Rattle.planner.specs.Ticks.{marked_in};
 ghost use Rattle.planner.specs.Plannable.{Plannable};
 ghost use Rattle.planner.specs.Blocks.{critical_blocks};
 
@@ -66,6 +69,19 @@ fn place_inside(demands: &mut [Demand], times: &[u16; 257], pair: &Pair) -> usiz
     count
 }
 
+// The block of a round, by its pair and the ticks that it takes.
+fn block_of(pair: &Pair, taken: &[bool; 256]) -> Block
+    ensures speed { result.speed ≡ (pair.now.work, extent (times_of pair.now)) }
+    ensures from { result.from ≡ first_tick (marked_in taken.now) (length taken.now) }
+    ensures to { result.to ≡ past_tick (marked_in taken.now) (length taken.now) }
+{
+    Block {
+        speed: (pair.work, pair.extent()),
+        from: first_tick(taken),
+        to: past_tick(taken),
+    }
+}
+
 // The rounds to come, which answer critical blocks.
 #[derive(Drop)]
 pub(super) struct Rounds {
@@ -121,10 +137,6 @@ impl Rounds {
         let taken = taken_ticks(&self.free, &times, &pair);
         take_ticks(&mut self.free, &taken);
         self.count = place_inside(&mut self.demands[..self.count], &times, &pair);
-        Some(Block {
-            speed: (pair.work, pair.extent()),
-            from: first_tick(&taken),
-            to: past_tick(&taken),
-        })
+        Some(block_of(&pair, &taken))
     }
 }

@@ -4,6 +4,7 @@ use Rattle.std.proofs.lemmas.List.{take-append-le}
 use Rattle.schedule.specs.Certificate.{listed}
 use Rattle.schedule.specs.InForce.{horizon}
 use Rattle.schedule.specs.Compressed.{seen, compressed, windows, NonEmpty}
+use Rattle.schedule.specs.BestPair.{extent}
 use Rattle.schedule.proofs.Theory.{theory}
 use Rattle.planner.specs.Pair.{times_of, best_of, IsCounted}
 use Rattle.planner.specs.Ticks.{free_in}
@@ -28,12 +29,12 @@ best_pair-requires-clause-proper c =
 pub place_inside-self-inside-requires : goal.place_inside-self-inside-requires
 place_inside-self-inside-requires c = record { within = subst (λ n. NonEmpty n (take c.self.inside.count c.self.inside.demands)) theory.ticks c.self.invariant.1.windowed }
 
-windows_are : (c : goal.After-past_tick) → take c.self.inside.count c.windows-windows.result ≡ map (seen (listed c.compressed_times-times.result)) (take c.self.inside.count c.self.inside.demands)
+windows_are : (c : goal.After-block_of) → take c.self.inside.count c.windows-windows.result ≡ map (seen (listed c.compressed_times-times.result)) (take c.self.inside.count c.self.inside.demands)
 windows_are c =
     let long : length c.self.inside.demands ≡ 64 = search rules in
     windows_first (listed c.compressed_times-times.result) c.self.inside.count c.self.inside.demands c.windows-windows.result (omega (arith, c.self.invariant.0)) c.windows-windows.ensures
 
-steps : (c : goal.After-past_tick) → Steps c.self.inside.free (take c.self.inside.count c.self.inside.demands) c.compressed_times-times.result (times_of c.in_ok-pair.pair)
+steps : (c : goal.After-block_of) → Steps c.self.inside.free (take c.self.inside.count c.self.inside.demands) c.compressed_times-times.result (times_of c.in_ok-pair.pair)
     c.taken_ticks-taken.result c.take_ticks.new.free (take c.place_inside-self-inside.result c.place_inside-self-inside.new.demands)
 steps c = record {
   before = c.self.invariant.1;
@@ -48,7 +49,7 @@ steps c = record {
 }
 
 -- what is left stands in the first places
-left : (c : goal.After-past_tick) → take c.place_inside-self-inside.result (c.place_inside-self-inside.new.demands ++ drop c.self.inside.count c.self.inside.demands) ≡ take c.place_inside-self-inside.result c.place_inside-self-inside.new.demands
+left : (c : goal.After-block_of) → take c.place_inside-self-inside.result (c.place_inside-self-inside.new.demands ++ drop c.self.inside.count c.self.inside.demands) ≡ take c.place_inside-self-inside.result c.place_inside-self-inside.new.demands
 left c = take-append-le _ _ _ c.place_inside-self-inside.ensures.count
 
 pub invariant_of-self : goal.invariant_of-self
@@ -59,4 +60,5 @@ invariant_of-self c =
 pub returns : goal.returns
 returns c =
     let load = subst (λ ws. IsCounted ws c.in_ok-pair.pair) (windows_are c) c.in_ok-pair.ensures.work in
-    sym c.self.view_is ∙ rw (left c) (steps_block _ _ _ _ _ _ _ (steps c) _ _ _ _ load c.extent.ensures c.first_tick.ensures c.past_tick.ensures)
+    let speed = c.block_of.ensures.speed ∙ ap (λ w. (w, extent (times_of c.in_ok-pair.pair))) load in
+    sym c.self.view_is ∙ rw (left c) (steps_block _ _ _ _ _ _ _ (steps c) c.block_of.result speed c.block_of.ensures.from c.block_of.ensures.to)
