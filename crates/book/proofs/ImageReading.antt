@@ -14,9 +14,11 @@ use Rattle.book.specs.declared.job.Job.{Job}
 use Rattle.book.specs.declared.fault.BookFault.{BookFault}
 use Rattle.book.specs.declared.fault.BookFault.TheVariants.{Short, Image}
 use Rattle.book.specs.Book.{View, WellFormed, Lawful}
-use Rattle.book.specs.Calls.{overload_in, overload_at, overload_fault, outcome}
+use Rattle.book.specs.Calls.{overload_in, overload_at, overload_fault, Outcome, outcome}
 use Rattle.book.specs.Images.{blank_record, record_in, job_in, later_records, is_job_record, book_in, is_clock, goes_on, not_blank, wrong_later, wrong_record, overload_record, load_fault, loaded}
+use Rattle.book.specs.Loads.{OnlyImages}
 use Rattle.book.specs.Reading.{going_on, unless}
+use Rattle.book.proofs.Loads.{only_images}
 use Rattle.book.proofs.Images.{jobs_of, jobs_of_more, jobs_of_none, first_blank, goes_on_parts, wellformed_in, lawful_from}
 
 -- what a test answers
@@ -257,3 +259,7 @@ pub load_accepted : (b after : View) (list : List ℕ) → Ok after ≡ reading 
 load_accepted b after list e =
     let read = read_only (load_fault list) after (book_in list) e in
     ap (λ o. outcome o b (book_in list)) read.0 ∙ ap (λ (v : View). record { answer = Ok tt; book = v }) (sym read.1)
+
+-- and what that tells of the list
+pub only_loaded : (b : View) (list : List ℕ) (answer : Result (Unit {0}) BookFault) (after : View) → 1560 ≤ length list → loaded b list ≡ record { answer = answer; book = after } → OnlyImages list answer after
+only_loaded b list answer after long e = subst (λ (o : Outcome). OnlyImages list o.answer o.book) e (only_images b list long)

@@ -25,7 +25,7 @@ use Rattle.book.proofs.WrongRecords.{later_of, within, never_wrong, none_wrong, 
 use Rattle.book.proofs.Images.{Standing, jobs_of, book_of, searched, none_standing, clock_parts, wellformed_jobs, wellformed_in, lawful_from}
 
 -- all records of a book are whole
-records_whole : (b : View) → AllWhole (image_records b)
+pub records_whole : (b : View) → AllWhole (image_records b)
 records_whole b =
     let n = 64 - length b.jobs in
     All-cons (λ r. length r ≡ 24) (clock_record b.now b.top) (later_of b.jobs n) refl
@@ -35,7 +35,7 @@ records_whole b =
 length-later_of : (js : List Job) (n : ℕ) → length (later_of js n) ≡ length js + n
 length-later_of js n = length-append (map job_record js) (replicate n blank_record) ∙ (λ i. length-map js job_record i + length-replicate n blank_record i)
 
-length-image_records : (b : View) → length b.jobs ≤ 64 → length (image_records b) ≡ 65
+pub length-image_records : (b : View) → length b.jobs ≤ 64 → length (image_records b) ≡ 65
 length-image_records b few = omega (arith, length-later_of b.jobs (64 - length b.jobs))
 
 length-image : (b : View) → length b.jobs ≤ 64 → length (image b) ≡ 1560

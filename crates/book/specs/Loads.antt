@@ -1,5 +1,5 @@
 -- What save and load mean: load accepts the images of lawful books, and no others.
-use Rattle.std.specs.Prelude.{◌≡◌, ℕ, ◌+◌, ◌*◌, ◌^◌, ◌<◌, ◌↔◌, List, take, Ok, Err, Result, All, IsOk}
+use Rattle.std.specs.Prelude.{◌≡◌, ℕ, ◌+◌, ◌*◌, ◌^◌, ◌<◌, ◌↔◌, List, length, take, slice_index_or, Ok, Err, Result, All, IsOk}
 use Rattle.schedule.specs.InForce.{horizon}
 use Rattle.schedule.specs.Overload.{NoneOverloaded}
 use Rattle.book.specs.declared.job.Job.{Job}
@@ -13,6 +13,10 @@ use Rattle.book.specs.Images.{image, loaded}
 pub record Sized (j : Job) : Type 0 where
   pub ticket : j.ticket < 2 ^ 16
   pub work : j.work < 2 ^ 16
+
+-- if the place holds a job, it is one
+abbrev pub SizedAt : ℕ → List Job → Type 0
+SizedAt place jobs = (d : Job) → place < length jobs → Sized (slice_index_or jobs place d)
 
 -- a book of such jobs
 abbrev pub AllSized : View → Type 0

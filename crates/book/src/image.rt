@@ -1,6 +1,7 @@
 // The image of a book: a record of now and the top, then one for each place.
-ghost use Rattle.std.specs.Prelude.{◌≡◌, map, slice_index_or};
+ghost use Rattle.std.specs.Prelude.{◌≡◌, map, slice_index_or, OnOk};
 ghost use Rattle.book.specs.Images.{clock_record, job_record, blank_record};
+ghost use Rattle.book.specs.Loads.{Sized, SizedAt};
 
 use super::book::Book;
 use super::fault::BookFault;
@@ -39,8 +40,9 @@ pub(super) fn clock_record(now: u64, top: u8) -> [u8; RECORD_LEN]
 
 impl Job {
     // The record of the open job.
-    pub(super) fn to_record(&self) -> [u8; RECORD_LEN]
-        ensures { result ≡ job_record self.now }
+    pub(super) fn to_record(self) -> [u8; RECORD_LEN]
+        ensures bytes { result ≡ job_record self }
+        ensures sized { Sized self }
     {
         let numbers = Numbers {
             ticket: self.ticket,
@@ -54,7 +56,8 @@ impl Job {
 
 // The record of the place among the open jobs.
 fn place_record(jobs: &[Job], place: usize) -> [u8; RECORD_LEN]
-    ensures { result ≡ slice_index_or (map job_record jobs.now) place blank_record }
+    ensures bytes { result ≡ slice_index_or (map job_record jobs.now) place blank_record }
+    ensures sized { SizedAt place jobs.now }
 {
     match jobs.get(place) {
         None => BLANK,
@@ -64,6 +67,7 @@ fn place_record(jobs: &[Job], place: usize) -> [u8; RECORD_LEN]
 
 impl Book {
     ghost use Rattle.book.specs.Images.{saved};
+    ghost use Rattle.book.specs.Loads.{LoadsBack};
 
     /// Writes the image of the book into the first 1560 places of the list.
     ///
@@ -71,6 +75,7 @@ impl Book {
     pub fn save(&self, list: &mut [u8]) -> Result<(), BookFault>
         ensures answer { result ≡ (saved self.entry.now list.old).answer }
         ensures list { list.new ≡ (saved self.entry.now list.old).list }
+        ensures loads_back { OnOk result (LoadsBack list.new self.entry.now) }
     {
         if list.len() < IMAGE_LEN {
             return Err(BookFault::Short { needed: IMAGE_LEN });

@@ -132,6 +132,7 @@ fn read_image(list: &[u8]) -> Result<Book, BookFault>
 
 impl Book {
     ghost use Rattle.book.specs.Images.{loaded};
+    ghost use Rattle.book.specs.Loads.{OnlyImages};
 
     /// Makes the book the one that the image in the first 1560 places of the list says.
     ///
@@ -140,6 +141,7 @@ impl Book {
     pub fn load(&mut self, list: &[u8]) -> Result<(), BookFault>
         ensures answer { result ≡ (loaded self.old list.now).answer }
         ensures after { self.new ≡ (loaded self.old list.now).book }
+        ensures only_images { 1560 ≤ length list.now → OnlyImages list.now result self.new }
     {
         *self = read_image(list)?;
         Ok(())

@@ -1,7 +1,7 @@
-use Rattle.std.proofs.Common.{ap, sym}
+use Rattle.std.proofs.Common.{Ok, Err, ap, sym}
 use Rattle.std.proofs.lemmas.Result.{err_from_is_err_and}
 use Rattle.book.specs.Calls.{Outcome}
-use Rattle.book.proofs.ImageReading.{load_refused, load_accepted}
+use Rattle.book.proofs.ImageReading.{load_refused, load_accepted, only_loaded}
 use Rattle.book.proofs.book.Book.load.Goals as goal
 
 pub returns-in_err-self-clause-answer : goal.returns-in_err-self-clause-answer
@@ -17,3 +17,12 @@ returns-clause-answer c = sym (ap (λ (o : Outcome). o.answer) (load_accepted c.
 
 pub returns-clause-after : goal.returns-clause-after
 returns-clause-after c = sym (ap (λ (o : Outcome). o.book) (load_accepted c.args.self.now c.in_ok-self.field-0 c.args.list.now c.in_ok-self.ensures))
+
+pub returns-in_err-self-clause-only_images : goal.returns-in_err-self-clause-only_images
+returns-in_err-self-clause-only_images c long =
+    let p = err_from_is_err_and c.from_residual.result c.from_residual.ensures.1 in
+    rw (p.1, p.2) (only_loaded c.args.self.now c.args.list.now (Err c.in_err-self.field-0.0) c.args.self.now long (load_refused c.args.self.now c.args.list.now c.in_err-self.field-0.0 c.in_err-self.ensures))
+
+pub returns-clause-only_images : goal.returns-clause-only_images
+returns-clause-only_images c long =
+    only_loaded c.args.self.now c.args.list.now (Ok tt) c.in_ok-self.field-0 long (load_accepted c.args.self.now c.in_ok-self.field-0 c.args.list.now c.in_ok-self.ensures)
