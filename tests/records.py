@@ -129,7 +129,7 @@ class Session:
         arrival = now + chance.choice((0, 0, chance.randrange(4), chance.randrange(40), chance.randrange(256)))
         longest = min(longest, now + 256 - arrival)
         length = chance.choice((1, longest, chance.randint(1, longest), chance.randint(1, longest)))
-        return offer(self.ticket(), arrival, arrival + length, chance.randint(1, 1 + int(most * length)), self.label())
+        return offer(self.ticket(), arrival, arrival + length, chance.randint(1, min(1 + int(most * length), 65_535)), self.label())
 
     def bad_offer(self):
         """An offer with some fields at or beyond the edge of what they can be."""

@@ -7,6 +7,7 @@
 It goes through all sharings, all lists and all pairs, as docs/RULES.md says them, and shares nothing with the program.
 The stored cases are definitions of the crate `schedule`, which proves that its own definitions answer the same.
 """
+import functools
 import itertools
 import pathlib
 import random
@@ -58,19 +59,19 @@ def books():
         yield ticks, top, sorted(demands, key=lambda demand: demand[1])
 
 
-def rows(ticks, demand):
-    """Every way to give one demand its units in ticks of its window."""
-    start, end, units = demand
-    for inside in itertools.product(range(units + 1), repeat=end - start):
-        if sum(inside) == units:
-            yield (0,) * start + inside + (0,) * (ticks - end)
+@functools.lru_cache(None)
+def rows(ticks, units):
+    """Every way to give so many ticks these units."""
+    if ticks == 0:
+        return [()] if units == 0 else []
+    return [(first, *rest) for first in range(units + 1) for rest in rows(ticks - 1, units - first)]
 
 
 def loads(ticks, demands):
     """What each sharing gives the ticks: the exact lists."""
     found = {(0,) * ticks}
-    for demand in demands:
-        found = {tuple(x + y for x, y in zip(load, row)) for load in found for row in rows(ticks, demand)}
+    for start, end, units in demands:
+        found = {load[:start] + tuple(map(int.__add__, load[start:end], row)) + load[end:] for load in found for row in rows(end - start, units)}
     return found
 
 
