@@ -1,0 +1,60 @@
+// The power models that bill.
+use anyhow::anyhow;
+use book::Book;
+use power::{Cube, Floor, Measured, PowerFault, SETTINGS};
+use refusal::Refusal;
+
+fn refused(fault: PowerFault) -> anyhow::Error {
+    anyhow!("a power model is refused: {}", Refusal::from(fault))
+}
+
+// A model with the draws 0, 1, 3, 6 and so on.
+fn measured() -> Result<Measured, PowerFault> {
+    let mut draws = [0; SETTINGS];
+    let mut draw = 0u32;
+    for (place, setting) in draws.iter_mut().zip(0..256u32) {
+        draw = draw.saturating_add(setting);
+        *place = draw;
+    }
+    let mut model = Measured::new();
+    model.load_draws(&draws)?;
+    Ok(model)
+}
+
+// Two cubes, the greatest cube, a floor over a cube, and a measured model.
+#[derive(Drop)]
+pub(super) struct Models {
+    fixed: Cube,
+    plain: Cube,
+    greatest: Cube,
+    floor: Floor<Cube>,
+    measured: Measured,
+}
+
+impl Models {
+    pub(super) fn new() -> anyhow::Result<Models> {
+        Models::try_new().map_err(refused)
+    }
+
+    fn try_new() -> Result<Models, PowerFault> {
+        let plain = Cube::new(0, 1)?;
+        Ok(Models {
+            fixed: Cube::new(10, 1)?,
+            plain,
+            greatest: Cube::new(66_000_000, 255)?,
+            floor: Floor::new(plain, 2),
+            measured: measured()?,
+        })
+    }
+
+    // What the settings in force of the book draw under each.
+    pub(super) fn bills(&self, book: &Book) -> [u64; 5] {
+        [
+            book.bill(&self.fixed),
+            book.bill(&self.plain),
+            book.bill(&self.greatest),
+            book.bill(&self.floor),
+            book.bill(&self.measured),
+        ]
+    }
+}
