@@ -1,27 +1,25 @@
 -- The critical blocks of a book, by those of its demands.
-use Rattle.std.proofs.Common.{◌≡◌, ℕ, ◌+◌, ◌<◌, ◌≤◌, false, ltb, List, [], ◌∷◌, ◌++◌, get_or, set, drop, length, map, Ok, refl, sym, ap, subst, ◌∙◌, arith}
+use Rattle.std.proofs.Common.{◌≡◌, ℕ, ◌+◌, ◌<◌, ◌≤◌, false, ltb, List, [], ◌∷◌, ◌++◌, get_or, set, drop, length, map, Ok, refl, ap, subst, ◌∙◌, arith}
 use Rattle.std.proofs.Math.Seq.{paste}
 use Rattle.std.specs.List.{All}
 use Rattle.std.proofs.lemmas.Bool.Decides.{nat_tests}
 use Rattle.std.proofs.lemmas.List.{length-map, get_or-map}
 use Rattle.std.proofs.lemmas.List.Edits.{paste_more, paste_all}
 use Rattle.std.proofs.lemmas.List.Elements.{All-head, All-tail}
+use Rattle.schedule.specs.Demands.{Demand}
 use Rattle.schedule.specs.InForce.{horizon}
 use Rattle.schedule.specs.Blocks.{blocks, Block as Critical}
+use Rattle.schedule.specs.Theory.{Blocked}
 use Rattle.planner.specs.declared.blocks.Block.{Block as Told}
 use Rattle.planner.specs.Blocks.{told_block, open_demands, critical_blocks}
 use Rattle.book.specs.declared.job.Job.{Job}
 use Rattle.book.specs.declared.blocks.Block.{Block}
 use Rattle.book.specs.Demands.{demands}
 use Rattle.book.specs.Book.{View, OpenAt}
-use Rattle.book.specs.Blocks.{told_block as absolute_block, blocks_of, Blocking, blocked}
-
--- a block whose ticks count from now
-abbrev pub from_now : ℕ → Told → Block
-from_now now b = record { speed = b.speed; start = now + b.from; end = now + b.to }
+use Rattle.book.specs.Blocks.{told_block as absolute_block, from_now, blocks_of, blocked}
 
 -- all open jobs have work left
-pub open-demands : (now : ℕ) (js : List Job) → All (OpenAt now) js → open_demands (demands now js) ≡ demands now js
+open-demands : (now : ℕ) (js : List Job) → All (OpenAt now) js → open_demands (demands now js) ≡ demands now js
 open-demands now [] open_at = refl
 open-demands now (j ∷ js) open_at =
     let here = All-head (OpenAt now) j js open_at in
@@ -33,8 +31,16 @@ from_now-told : (now : ℕ) (cs : List Critical) → map (from_now now) (map tol
 from_now-told now [] = refl
 from_now-told now (c ∷ cs) = ap (λ bs. absolute_block now c ∷ bs) (from_now-told now cs)
 
-pub blocks_are : (b : View) → All (OpenAt b.now) b.jobs → map (from_now b.now) (critical_blocks (demands b.now b.jobs)) ≡ blocks_of b
-blocks_are b open_at = from_now-told b.now (blocks horizon (open_demands (demands b.now b.jobs))) ∙ ap (λ ds. map (absolute_block b.now) (blocks horizon ds)) (open-demands b.now b.jobs open_at)
+-- the blocks of the planner, counted from now, are those of the book
+pub blocks_are : (b : View) (ds : List Demand) (items : List Told) → All (OpenAt b.now) b.jobs → ds ≡ demands b.now b.jobs → items ≡ critical_blocks ds → map (from_now b.now) items ≡ blocks_of b
+blocks_are b ds items open_at of_jobs of_demands =
+    ap (map (from_now b.now)) of_demands
+    ∙ from_now-told b.now (blocks horizon (open_demands ds))
+    ∙ ap (λ es. map (absolute_block b.now) (blocks horizon es)) (ap open_demands of_jobs ∙ open-demands b.now b.jobs open_at)
+
+-- and what is said of them holds of the book's demands
+pub blocked_open : (b : View) (ds : List Demand) → All (OpenAt b.now) b.jobs → ds ≡ demands b.now b.jobs → Blocked horizon (open_demands ds) → Blocked horizon (demands b.now b.jobs)
+blocked_open b ds open_at of_jobs = subst (Blocked horizon) (ap open_demands of_jobs ∙ open-demands b.now b.jobs open_at)
 
 -- they are written into the first places of a list, one after the other
 module _ (now : ℕ) (items : List Told) (list : List Block) (room : length items ≤ length list) where
@@ -46,18 +52,20 @@ module _ (now : ℕ) (items : List Told) (list : List Block) (room : length item
       (subst (λ k. set (paste list 0 (map (from_now now) items) i) k (get_or (map (from_now now) items) i (from_now now d)) ≡ paste list 0 (map (from_now now) items) (i + 1)) (omega arith)
       (paste_more list 0 (map (from_now now) items) i (from_now now d) (omega arith) (omega (arith, size))))
 
-first_written : (bs list : List Block) (i : ℕ) → i ≡ length bs → paste list 0 bs i ≡ bs ++ drop (length bs) list
-first_written bs list i done = paste_all list 0 bs i done ∙ ap (λ k. bs ++ drop k list) (omega arith)
+  pub all_written : (i : ℕ) → i ≡ length items → paste list 0 (map (from_now now) items) i ≡ map (from_now now) items ++ drop (length items) list
+  all_written i done =
+      let size = length-map items (from_now now) in
+      paste_all list 0 (map (from_now now) items) i (omega (arith, size)) ∙ ap (λ k. map (from_now now) items ++ drop k list) (omega arith)
 
 -- a list with enough places is not refused
 module _ (b : View) (list : List Block) (room : 64 ≤ length list) where
   blocked_none : blocked b list ≡ record { answer = Ok (length (blocks_of b)); list = blocks_of b ++ drop (length (blocks_of b)) list }
   blocked_none = let enough : ltb (length list) 64 ≡ false = grind (arith, nat_tests) in rw enough refl
 
-  pub written_answer : (items : List Told) → map (from_now b.now) items ≡ blocks_of b → Ok (length items) ≡ (blocked b list).answer
-  written_answer items are = rw (blocked_none, ← are, length-map items (from_now b.now)) refl
+  -- the planner's blocks are written
+  module _ (items : List Told) (are : map (from_now b.now) items ≡ blocks_of b) where
+    pub written_answer : Ok (length items) ≡ (blocked b list).answer
+    written_answer = rw (blocked_none, ← are, length-map items (from_now b.now)) refl
 
-  pub written_list : (items : List Told) (i : ℕ) → map (from_now b.now) items ≡ blocks_of b → i ≡ length items → paste list 0 (map (from_now b.now) items) i ≡ (blocked b list).list
-  written_list items i are done =
-      let size = length-map items (from_now b.now) in
-      first_written (map (from_now b.now) items) list i (omega (arith, size)) ∙ ap (λ bs. bs ++ drop (length bs) list) are ∙ sym (ap (λ (o : Blocking). o.list) blocked_none)
+    pub written_list : map (from_now b.now) items ++ drop (length items) list ≡ (blocked b list).list
+    written_list = rw (blocked_none, ← are, length-map items (from_now b.now)) refl

@@ -2,6 +2,7 @@
 use Rattle.std.specs.Prelude.{ℕ, ◌+◌, ◌++◌, if◌then◌else◌, List, length, map, drop, Some, None, Ok, Err, Option, Result, nat_lt}
 use Rattle.schedule.specs.InForce.{horizon}
 use Rattle.schedule.specs.Blocks.{blocks, Block as Critical}
+use Rattle.planner.specs.declared.blocks.Block.{Block as FromNow}
 use Rattle.book.specs.declared.blocks.Block.{Block}
 use Rattle.book.specs.declared.fault.BookFault.{BookFault}
 use Rattle.book.specs.declared.fault.BookFault.TheVariants.{Short}
@@ -11,6 +12,10 @@ use Rattle.book.specs.Book.{View}
 -- a critical block as it is answered: its exact speed as its work and its length, its first tick, and the tick after its last
 abbrev pub told_block : ℕ → Critical → Block
 told_block now c = record { speed = (c.load, c.size); start = now + c.first; end = now + c.past }
+
+-- a block of the planner, whose ticks count from now
+abbrev pub from_now : ℕ → FromNow → Block
+from_now now b = record { speed = b.speed; start = now + b.from; end = now + b.to }
 
 -- the critical blocks of a book, in the order of the rounds
 abbrev pub blocks_of : View → List Block

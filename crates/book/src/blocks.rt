@@ -1,10 +1,10 @@
 // The critical blocks of a book.
-ghost use Rattle.std.specs.Prelude.{◌≡◌, ◌+◌, ◌≤◌, OnOk};
+ghost use Rattle.std.specs.Prelude.{◌≡◌, ◌≤◌, ◌++◌, length, map, drop, OnOk};
 ghost use Rattle.schedule.specs.InForce.{horizon};
 ghost use Rattle.schedule.specs.Theory.{Blocked};
 ghost use Rattle.book.specs.Demands.{demands};
 ghost use Rattle.book.specs.Book.{last_tick};
-ghost use Rattle.book.specs.Blocks.{blocked};
+ghost use Rattle.book.specs.Blocks.{from_now, blocked};
 
 use super::book::Book;
 use super::demands::{NO_DEMAND, demands_of};
@@ -24,10 +24,10 @@ pub struct Block {
 }
 
 impl Block {
-    // A block whose ticks count from now.
+    // A block of the planner, whose ticks count from now.
     fn from_now(block: &planner::Block, now: u64) -> Block
         requires { now ≤ last_tick }
-        ensures { result ≡ record { speed = block.now.speed; start = now + block.now.from; end = now + block.now.to } }
+        ensures { result ≡ from_now now block.now }
     {
         Block {
             speed: block.speed,
@@ -35,6 +35,19 @@ impl Block {
             end: now + u64::from(block.to),
         }
     }
+}
+
+// Writes blocks of the planner into the first places of the list, and answers how many there are.
+fn write(blocks: &[planner::Block], now: u64, list: &mut [Block]) -> usize
+    requires in_time { now ≤ last_tick }
+    requires room { length blocks.now ≤ length list.old }
+    ensures list { list.new ≡ map (from_now now) blocks.now ++ drop (length blocks.now) list.old }
+    ensures count { result ≡ length blocks.now }
+{
+    for (place, block) in blocks.iter().enumerate() {
+        list[place] = Block::from_now(block, now);
+    }
+    blocks.len()
 }
 
 impl Book {
@@ -52,9 +65,7 @@ impl Book {
         let mut places = [NO_DEMAND; PLACES];
         let demands = demands_of(&mut places, self.jobs.jobs(), self.tick);
         let blocks = critical_blocks(&demands);
-        for (place, block) in blocks.list().iter().enumerate() {
-            list[place] = Block::from_now(block, self.tick);
-        }
-        Ok(blocks.list().len())
+        let count = write(blocks.list(), self.tick, list);
+        Ok(count)
     }
 }

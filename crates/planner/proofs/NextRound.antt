@@ -1,7 +1,6 @@
 -- What the next round answers, and what it leaves.
-use Rattle.std.proofs.Common.{◌≡◌, ℕ, ◌<◌, ◌≤◌, Bool, not, ◌&&◌, List, [], ◌∷◌, length, map, Option, None, Some, refl, sym, ap, ap₂, ◌∙◌, subst, arith}
+use Rattle.std.proofs.Common.{◌≡◌, ℕ, ◌<◌, ◌≤◌, Bool, not, ◌&&◌, List, [], ◌∷◌, length, map, Some, sym, ap, ap₂, ◌∙◌, subst, arith}
 use Rattle.std.proofs.ByRecursion.{all_kept_by}
-use Rattle.std.proofs.lemmas.List.Filters.{length-filter_both}
 use Rattle.schedule.specs.Certificate.{listed}
 use Rattle.schedule.specs.Demands.{Demand}
 use Rattle.schedule.specs.Work.{inside}
@@ -31,16 +30,10 @@ left_after : (free : ℕ → Bool) (ds : List Demand) (p : Pair) → p.low < p.h
 left_after free ds p proper left =
     let kept : Demand → Bool = λ d. not (inside p.low p.high (seen (compressed free) d)) in
     record {
-      few = omega (arith, length-filter_both kept (λ d. not (kept d)) (λ _. refl) ds, left.few);
       windowed = all_kept_by kept (λ d. (d.from < d.to) × (d.to ≤ horizon)) ds left.windowed;
       all_open = open_unplaced (compressed free) p ds left.all_open;
       free_left = non_empty_after horizon free p proper ds left.free_left;
     }
-
--- where no demand is left, there is none
-pub no_round : (free : ℕ → Bool) (ds : List Demand) → ◌≡◌ {A = Option Pair} None (best_of (windows free ds)) → blocks_to_come free ds ≡ []
-no_round free [] none = refl
-no_round free (d ∷ ds) none = cc
 
 pub next_round : (free : ℕ → Bool) (ds : List Demand) (p : Pair) → AreLeft free ds → Some p ≡ best_of (windows free ds) → Next free ds p
 next_round free [] p left found = cc

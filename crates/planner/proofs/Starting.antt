@@ -41,7 +41,6 @@ first_left ds plannable =
     let windowed = open_windowed horizon ds plannable.sound in
     let all_open = open_open ds in
     rw all_are_free (record {
-      few = omega (arith, open_few ds, plannable.few);
       windowed = windowed;
       all_open = all_open;
       free_left = non_empty_first horizon (open_demands ds) (non_empty_sound horizon (open_demands ds) windowed) all_open;

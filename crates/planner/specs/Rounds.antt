@@ -1,5 +1,5 @@
 -- What the rounds of critical blocks keep and leave.
-use Rattle.std.specs.Prelude.{ℕ, ◌≤◌, Bool, List, length, map}
+use Rattle.std.specs.Prelude.{ℕ, Bool, List, length, map}
 use Rattle.schedule.specs.Demands.{Demand, AllOpen}
 use Rattle.schedule.specs.Compressed.{compressed, NonEmpty, windows}
 use Rattle.schedule.specs.Rounds.{pairs}
@@ -14,7 +14,6 @@ blocks_to_come free ds = map told_block (blocks_of horizon free ds (pairs (lengt
 
 -- what holds of the demands that are not yet placed: each has work left, and a free tick in its window
 pub record AreLeft (free : ℕ → Bool) (ds : List Demand) : Type 0 where
-  pub few : length ds ≤ 64
   pub windowed : NonEmpty horizon ds
   pub all_open : AllOpen ds
   pub free_left : NonEmpty (compressed free horizon) (windows free ds)

@@ -1,6 +1,6 @@
 use Rattle.std.proofs.Common.{◌≡◌, ◌<◌, ◌∙◌, ◌++◌, take, drop, length, map, sym, ap, subst, rules, arith}
 use Rattle.std.specs.List.{AllByRecursion}
-use Rattle.std.proofs.lemmas.List.{take-append-le}
+use Rattle.std.proofs.lemmas.List.{length-take, take-append-le}
 use Rattle.schedule.specs.Certificate.{listed}
 use Rattle.schedule.specs.InForce.{horizon}
 use Rattle.schedule.specs.Compressed.{seen, compressed, windows, NonEmpty}
@@ -55,7 +55,7 @@ left c = take-append-le _ _ _ c.place_inside-self-inside.ensures.count
 pub invariant_of-self : goal.invariant_of-self
 invariant_of-self c =
     let same : length c.place_inside-self-inside.new.demands ≡ length (take c.self.inside.count c.self.inside.demands) = c.place_inside-self-inside.auto.demands in
-    (omega (arith, c.place_inside-self-inside.ensures.count, c.self.invariant.1.few), rw (left c) (steps_leave _ _ _ _ _ _ _ (steps c)))
+    (omega (arith, c.place_inside-self-inside.ensures.count, length-take c.self.inside.count c.self.inside.demands, c.self.invariant.0), rw (left c) (steps_leave _ _ _ _ _ _ _ (steps c)))
 
 pub returns : goal.returns
 returns c =
