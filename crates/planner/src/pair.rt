@@ -5,23 +5,22 @@ ghost use Rattle.schedule.specs.Work.{inside, work};
 use super::demands::Demand;
 
 impl Demand {
-    // Whether its window lies inside the interval from low to high.
+    // Whether its window lies inside the interval from low to high. `&` takes no branch, as `&&` would, and is faster here.
     pub(super) fn is_inside(&self, low: u16, high: u16) -> bool
         ensures { result ≡ inside low high self.now }
     {
-        low <= self.from && self.to <= high
+        (low <= self.from) & (self.to <= high)
     }
 }
 
-// The work of the windows that lie inside the interval from low to high.
+// The work of the windows that lie inside the interval from low to high: each window's units once or not at all, with no branch.
 fn work_inside(windows: &[Demand], low: u16, high: u16) -> u32
     requires { length windows.now ≤ 64 }
     ensures { result ≡ work windows.now low high }
 {
     windows
         .iter()
-        .filter(|window| window.is_inside(low, high))
-        .map(|window| u32::from(window.units))
+        .map(|window| u32::from(window.is_inside(low, high)) * u32::from(window.units))
         .sum()
 }
 
