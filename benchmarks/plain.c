@@ -1,4 +1,5 @@
-/* The planner in plain C, by the same way as crates/planner: unit by unit in order of deadline, each at the least loaded tick of its hull. */
+/* The planner in plain C, by the same way as crates/planner. Settings: unit by unit in order of deadline, each at the least loaded tick of its hull.
+   Critical blocks: in rounds, each by the pair of compressed times with the greatest work over length. */
 #include "planner.h"
 #include <stdbool.h>
 #include <string.h>
@@ -111,5 +112,125 @@ uint32_t plain_settings(const struct job *jobs, size_t count, struct settings *f
         if (jobs[i].units > 0)
             place_job(&plan, &jobs[i]);
     memcpy(found->ticks, plan.loads, sizeof plan.loads);
+    return 0;
+}
+
+/* Which ticks are free, and the jobs with work left that are not yet placed. */
+struct rounds {
+    bool free[TICKS];
+    size_t count;
+    struct job jobs[JOBS];
+};
+
+/* A pair of compressed times, and the work of the windows inside. */
+struct pair {
+    uint16_t low;
+    uint16_t high;
+    uint32_t work;
+};
+
+/* `&` takes no branch, as `&&` would, and is faster here. */
+static bool is_inside(const struct job *window, uint16_t low, uint16_t high) {
+    return (low <= window->from) & (window->to <= high);
+}
+
+/* The pair from low to high, with each window's units once or not at all. */
+static struct pair counted(const struct job *windows, size_t count, uint16_t low, uint16_t high) {
+    struct pair pair = {low, high, 0};
+    for (size_t i = 0; i < count; i++)
+        pair.work += (uint32_t)is_inside(&windows[i], low, high) * windows[i].units;
+    return pair;
+}
+
+static uint16_t extent(struct pair pair) {
+    return (uint16_t)(pair.high - pair.low);
+}
+
+/* Whether `one` has more work over length; or as much, and starts earlier; or starts there too, and ends later. */
+static bool beats(struct pair one, struct pair other) {
+    uint64_t here = (uint64_t)one.work * extent(other);
+    uint64_t there = (uint64_t)other.work * extent(one);
+    if (here != there)
+        return here > there;
+    return one.low < other.low || (one.low == other.low && one.high > other.high);
+}
+
+/* The best pair from a start to an end of the windows, of which there is one or more. */
+static struct pair best_pair(const struct job *windows, size_t count) {
+    struct pair best = counted(windows, count, windows[0].from, windows[0].to);
+    for (size_t i = 0; i < count; i++) {
+        for (size_t j = 0; j < count; j++) {
+            uint16_t low = windows[i].from;
+            uint16_t high = windows[j].to;
+            if (low < high) {
+                struct pair pair = counted(windows, count, low, high);
+                if (beats(pair, best))
+                    best = pair;
+            }
+        }
+    }
+    return best;
+}
+
+/* The jobs in compressed time: the number of free ticks before each tick. */
+static void compress(const struct rounds *rounds, struct job *windows) {
+    uint16_t times[TICKS + 1] = {0};
+    for (size_t tick = 0; tick < TICKS; tick++)
+        times[tick + 1] = (uint16_t)(times[tick] + rounds->free[tick]);
+    for (size_t i = 0; i < rounds->count; i++) {
+        const struct job *job = &rounds->jobs[i];
+        windows[i] = (struct job){times[job->from], times[job->to], job->units};
+    }
+}
+
+/* Takes the free ticks of the pair: they are the block. */
+static struct block take_ticks(struct rounds *rounds, struct pair pair) {
+    struct block block = {pair.work, extent(pair), 0, 0};
+    uint16_t time = 0;
+    for (uint16_t tick = 0; tick < TICKS; tick++) {
+        if (!rounds->free[tick])
+            continue;
+        if (pair.low <= time && time < pair.high) {
+            if (time == pair.low)
+                block.from = tick;
+            block.to = (uint16_t)(tick + 1);
+            rounds->free[tick] = false;
+        }
+        time++;
+    }
+    return block;
+}
+
+/* Keeps the jobs whose windows do not lie inside the pair. */
+static void place_inside(struct rounds *rounds, const struct job *windows, struct pair pair) {
+    size_t left = 0;
+    for (size_t i = 0; i < rounds->count; i++)
+        if (!is_inside(&windows[i], pair.low, pair.high))
+            rounds->jobs[left++] = rounds->jobs[i];
+    rounds->count = left;
+}
+
+static struct block next_block(struct rounds *rounds) {
+    struct job windows[JOBS];
+    compress(rounds, windows);
+    struct pair pair = best_pair(windows, rounds->count);
+    place_inside(rounds, windows, pair);
+    return take_ticks(rounds, pair);
+}
+
+uint32_t plain_blocks(const struct job *jobs, size_t count, struct blocks *found) {
+    struct rounds rounds;
+    if (count > JOBS)
+        return 1;
+    if (!is_plannable(jobs, count))
+        return 2;
+    memset(rounds.free, true, sizeof rounds.free);
+    rounds.count = 0;
+    for (size_t i = 0; i < count; i++)
+        if (jobs[i].units > 0)
+            rounds.jobs[rounds.count++] = jobs[i];
+    found->count = 0;
+    while (rounds.count > 0)
+        found->places[found->count++] = next_block(&rounds);
     return 0;
 }

@@ -1,6 +1,6 @@
 #!/usr/bin/env bash
-# Times the proved planner beside the same in plain C, and checks that both give the same settings: see plan.c. CC names another compiler.
-# It fails where the settings differ, or where the proved planner takes more than 1.5 times as long.
+# Times the proved planner beside the same in plain C, settings and critical blocks, and checks that both find the same: see plan.c. CC names another compiler.
+# It fails where they differ, or where the proved planner takes more than 1.5 times as long.
 set -euo pipefail
 cd "$(dirname "$0")"
 out=$(mktemp -d)
