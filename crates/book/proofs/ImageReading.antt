@@ -15,11 +15,11 @@ use Rattle.book.specs.declared.fault.BookFault.{BookFault}
 use Rattle.book.specs.declared.fault.BookFault.TheVariants.{Short, Image}
 use Rattle.book.specs.Book.{View, WellFormed, Lawful}
 use Rattle.book.specs.Calls.{overload_in, overload_at, overload_fault, Outcome, outcome}
-use Rattle.book.specs.Images.{blank_record, record_in, job_in, later_records, is_job_record, book_in, is_clock, goes_on, not_blank, wrong_later, wrong_record, overload_record, load_fault, loaded}
+use Rattle.book.specs.Images.{blank_record, record_in, job_in, later_records, is_job_record, book_in, is_clock, is_next_job, not_blank, wrong_later, wrong_record, overload_record, load_fault, loaded}
 use Rattle.book.specs.Loads.{OnlyImages}
-use Rattle.book.specs.Reading.{going_on, unless}
+use Rattle.book.specs.Reading.{leading_jobs, unless}
 use Rattle.book.proofs.Loads.{only_images}
-use Rattle.book.proofs.Images.{jobs_of, jobs_of_more, jobs_of_none, first_blank, goes_on_parts, wellformed_in, lawful_from}
+use Rattle.book.proofs.Images.{jobs_of, jobs_of_more, jobs_of_none, first_blank, next_job_parts, wellformed_in, lawful_from}
 
 -- what a test answers
 pub some_if : {A : Type 0} (b : Bool) (x y : A) → Some y ≡ (if b then Some x else None) → (b ≡ true) × (y ≡ x)
@@ -34,83 +34,83 @@ none_if b x e = elim (cases_Bool b) [
   | inr f ↦ f
 ]
 
--- the next record goes on, or does not
+-- the next record is that of a next job, or is not
 module _ (now i : ℕ) (js : List Job) (rs : List (List ℕ)) (lt : i < length rs) where
-  pub goes : (d : List ℕ) → goes_on now js (get_or rs i d) ≡ true → going_on now js (drop i rs) ≡ going_on now (js ++ (job_in (get_or rs i d) ∷ [])) (drop (i + 1) rs)
-  goes d e =
-      ap (going_on now js) (drop-cons rs i d lt)
-      ∙ cond-true (goes_on now js (get_or rs i d)) (going_on now (js ++ (job_in (get_or rs i d) ∷ [])) (drop (suc i) rs)) js e
-      ∙ ap (λ n. going_on now (js ++ (job_in (get_or rs i d) ∷ [])) (drop n rs)) (sym (add-one i))
+  pub one_more : (d : List ℕ) → is_next_job now js (get_or rs i d) ≡ true → leading_jobs now js (drop i rs) ≡ leading_jobs now (js ++ (job_in (get_or rs i d) ∷ [])) (drop (i + 1) rs)
+  one_more d e =
+      ap (leading_jobs now js) (drop-cons rs i d lt)
+      ∙ cond-true (is_next_job now js (get_or rs i d)) (leading_jobs now (js ++ (job_in (get_or rs i d) ∷ [])) (drop (suc i) rs)) js e
+      ∙ ap (λ n. leading_jobs now (js ++ (job_in (get_or rs i d) ∷ [])) (drop n rs)) (sym (add-one i))
 
-  pub stops : (d : List ℕ) → goes_on now js (get_or rs i d) ≡ false → going_on now js (drop i rs) ≡ js
-  stops d e =
-      ap (going_on now js) (drop-cons rs i d lt)
-      ∙ cond-false (goes_on now js (get_or rs i d)) (going_on now (js ++ (job_in (get_or rs i d) ∷ [])) (drop (suc i) rs)) js e
+  pub no_more : (d : List ℕ) → is_next_job now js (get_or rs i d) ≡ false → leading_jobs now js (drop i rs) ≡ js
+  no_more d e =
+      ap (leading_jobs now js) (drop-cons rs i d lt)
+      ∙ cond-false (is_next_job now js (get_or rs i d)) (leading_jobs now (js ++ (job_in (get_or rs i d) ∷ [])) (drop (suc i) rs)) js e
 
--- how many records go on, and that the first wrong one is the first after them that is not blank
-pub record Gone (now k : ℕ) (before : List Job) (rs : List (List ℕ)) : Type 0 where
+-- how many records are leading jobs, and that the first wrong one is the first after them that is not blank
+pub record Leading (now k : ℕ) (before : List Job) (rs : List (List ℕ)) : Type 0 where
   pub count : ℕ
   pub within : count ≤ length rs
-  pub jobs : length (going_on now before rs) ≡ length before + count
+  pub jobs : length (leading_jobs now before rs) ≡ length before + count
   pub wrong : wrong_later now before k rs ≡ not_blank (k + count) (drop count rs)
 
-gone : (now k : ℕ) (before : List Job) (rs : List (List ℕ)) → Gone now k before rs
-gone now k before [] = record { count = 0; within = omega arith; jobs = omega arith; wrong = refl }
-gone now k before (r ∷ rs) =
+leading : (now k : ℕ) (before : List Job) (rs : List (List ℕ)) → Leading now k before rs
+leading now k before [] = record { count = 0; within = omega arith; jobs = omega arith; wrong = refl }
+leading now k before (r ∷ rs) =
     let more = before ++ (job_in r ∷ []) in
-    elim (cases_Bool (goes_on now before r)) [
+    elim (cases_Bool (is_next_job now before r)) [
       | inl t ↦
-          let g = gone now (k + 1) more rs in
+          let g = leading now (k + 1) more rs in
           let next : k + 1 + g.count ≡ k + suc g.count = omega arith in
           record {
             count = suc g.count;
             within = omega (arith, g.within);
-            jobs = ap length (cond-true (goes_on now before r) (going_on now more rs) before t) ∙ omega (arith, g.jobs, length-append before (job_in r ∷ []));
-            wrong = cond-true (goes_on now before r) (wrong_later now more (k + 1) rs) (not_blank k (r ∷ rs)) t ∙ (g.wrong ∙ ap (λ n. not_blank n (drop g.count rs)) next);
+            jobs = ap length (cond-true (is_next_job now before r) (leading_jobs now more rs) before t) ∙ omega (arith, g.jobs, length-append before (job_in r ∷ []));
+            wrong = cond-true (is_next_job now before r) (wrong_later now more (k + 1) rs) (not_blank k (r ∷ rs)) t ∙ (g.wrong ∙ ap (λ n. not_blank n (drop g.count rs)) next);
           }
       | inr f ↦ record {
         count = 0;
         within = omega arith;
-        jobs = ap length (cond-false (goes_on now before r) (going_on now more rs) before f) ∙ omega arith;
-        wrong = cond-false (goes_on now before r) (wrong_later now more (k + 1) rs) (not_blank k (r ∷ rs)) f ∙ ap (λ n. not_blank n (r ∷ rs)) (omega arith);
+        jobs = ap length (cond-false (is_next_job now before r) (leading_jobs now more rs) before f) ∙ omega arith;
+        wrong = cond-false (is_next_job now before r) (wrong_later now more (k + 1) rs) (not_blank k (r ∷ rs)) f ∙ ap (λ n. not_blank n (r ∷ rs)) (omega arith);
       }
     ]
 
--- where none is wrong, those that go on are all that say a job
-pub all_gone : (now k : ℕ) (before : List Job) (rs : List (List ℕ)) → wrong_later now before k rs ≡ None → going_on now before rs ≡ before ++ jobs_of rs
-all_gone now k before [] e = sym (append-nil before)
-all_gone now k before (r ∷ rs) e =
+-- where none is wrong, the leading jobs are all that are said
+pub all_leading : (now k : ℕ) (before : List Job) (rs : List (List ℕ)) → wrong_later now before k rs ≡ None → leading_jobs now before rs ≡ before ++ jobs_of rs
+all_leading now k before [] e = sym (append-nil before)
+all_leading now k before (r ∷ rs) e =
     let more = before ++ (job_in r ∷ []) in
-    elim (cases_Bool (goes_on now before r)) [
+    elim (cases_Bool (is_next_job now before r)) [
       | inl t ↦
-          let parts = goes_on_parts now before r t in
+          let parts = next_job_parts now before r t in
           let kind : is_job_record r ≡ true = ap is_job_record parts.0 in
-          let rest : wrong_later now more (k + 1) rs ≡ None = sym (cond-true (goes_on now before r) (wrong_later now more (k + 1) rs) (not_blank k (r ∷ rs)) t) ∙ e in
-          cond-true (goes_on now before r) (going_on now more rs) before t
-          ∙ all_gone now (k + 1) more rs rest
+          let rest : wrong_later now more (k + 1) rs ≡ None = sym (cond-true (is_next_job now before r) (wrong_later now more (k + 1) rs) (not_blank k (r ∷ rs)) t) ∙ e in
+          cond-true (is_next_job now before r) (leading_jobs now more rs) before t
+          ∙ all_leading now (k + 1) more rs rest
           ∙ append_assoc before (job_in r ∷ []) (jobs_of rs) ∙ ap (λ js. before ++ js) (sym (jobs_of_more r rs kind))
       | inr f ↦
-          let rest : not_blank k (r ∷ rs) ≡ None = sym (cond-false (goes_on now before r) (wrong_later now more (k + 1) rs) (not_blank k (r ∷ rs)) f) ∙ e in
+          let rest : not_blank k (r ∷ rs) ≡ None = sym (cond-false (is_next_job now before r) (wrong_later now more (k + 1) rs) (not_blank k (r ∷ rs)) f) ∙ e in
           let kind : is_job_record r ≡ false = ap is_job_record (first_blank k r rs rest) in
-          cond-false (goes_on now before r) (going_on now more rs) before f
+          cond-false (is_next_job now before r) (leading_jobs now more rs) before f
           ∙ sym (append-nil before) ∙ ap (λ js. before ++ js) (sym (jobs_of_none r rs kind))
     ]
 
--- what is said of the records after the first, by the first that is not blank after those that go on
-module _ (now count : ℕ) (rs : List (List ℕ)) (counted : count ≡ length (going_on now [] rs)) where
+-- what is said of the records after the first, by the first that is not blank after the leading jobs
+module _ (now count : ℕ) (rs : List (List ℕ)) (counted : count ≡ length (leading_jobs now [] rs)) where
   pub count_within : count ≤ length rs
-  count_within = let g = gone now 1 [] rs in omega (arith, g.within, g.jobs)
+  count_within = let g = leading now 1 [] rs in omega (arith, g.within, g.jobs)
 
   wrong_at : wrong_later now [] 1 rs ≡ not_blank (1 + count) (drop count rs)
   wrong_at =
-      let g = gone now 1 [] rs in
+      let g = leading now 1 [] rs in
       let same : g.count ≡ count = omega (arith, g.jobs) in
       g.wrong ∙ ap (λ n. not_blank (1 + n) (drop n rs)) same
 
-  pub rest_blank : position (λ r. not (bytes_eq r blank_record)) (drop count rs) ≡ None → Ok (going_on now [] rs) ≡ unless (option_map Image (wrong_later now [] 1 rs)) (jobs_of rs)
+  pub rest_blank : position (λ r. not (bytes_eq r blank_record)) (drop count rs) ≡ None → Ok (leading_jobs now [] rs) ≡ unless (option_map Image (wrong_later now [] 1 rs)) (jobs_of rs)
   rest_blank e =
       let none : wrong_later now [] 1 rs ≡ None = wrong_at ∙ ap (option_map (λ i. 1 + count + i)) e in
-      ap Ok (all_gone now 1 [] rs none) ∙ ap (λ o. unless (option_map Image o) (jobs_of rs)) (sym none)
+      ap Ok (all_leading now 1 [] rs none) ∙ ap (λ o. unless (option_map Image o) (jobs_of rs)) (sym none)
 
   pub rest_wrong : (i : ℕ) → position (λ r. not (bytes_eq r blank_record)) (drop count rs) ≡ Some i → Err (Image (1 + count + i)) ≡ unless (option_map Image (wrong_later now [] 1 rs)) (jobs_of rs)
   rest_wrong i e =

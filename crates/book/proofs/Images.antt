@@ -24,7 +24,7 @@ use Rattle.book.specs.Jobs.{is_before, is_open}
 use Rattle.book.specs.Demands.{demands}
 use Rattle.book.specs.Book.{View, OpenAt, InOrder, WellFormed, Lawful}
 use Rattle.book.specs.Calls.{outcome, overload_in}
-use Rattle.book.specs.Images.{clock_record, job_record, blank_record, record_in, job_in, later_records, is_job_record, book_in, can_be_open, is_clock, goes_on, not_blank, wrong_later, wrong_record, overload_record, length_fault, load_fault, loaded}
+use Rattle.book.specs.Images.{clock_record, job_record, blank_record, record_in, job_in, later_records, is_job_record, book_in, can_be_open, is_clock, is_next_job, not_blank, wrong_later, wrong_record, overload_record, length_fault, load_fault, loaded}
 use Rattle.book.proofs.DemandFacts.{sound-demands}
 use Rattle.book.proofs.Offering.{others}
 
@@ -61,9 +61,9 @@ open_from_test now j e = record {
 pub all_before : (j : Job) (before : List Job) → Decides (list_all (λ k. is_before k j) before) (All (λ k. is_before k j ≡ true) before)
 all_before j before = Decides-by_and (λ k. is_before k j) (λ k. is_before k j ≡ true) (list_all (λ k. is_before k j)) (λ k. (λ e. e, λ e. e)) refl (λ _ _. refl) before
 
--- what a record says that goes on
-pub goes_on_parts : (now : ℕ) (before : List Job) (r : List ℕ) → goes_on now before r ≡ true → (r ≡ job_record (job_in r)) × Follows now before (job_in r)
-goes_on_parts now before r e =
+-- what the record of a next job says
+pub next_job_parts : (now : ℕ) (before : List Job) (r : List ℕ) → is_next_job now before r ≡ true → (r ≡ job_record (job_in r)) × Follows now before (job_in r)
+next_job_parts now before r e =
     let j = job_in r in
     let in_order : Bool = list_all (λ k. is_before k j) before in
     let other : Bool = not (is_open j.ticket before) in
@@ -110,15 +110,15 @@ first_blank k r rs e = elim (cases_Bool (bytes_eq r blank_record)) [
 -- where no record is wrong, the jobs that they say can be open together with those before
 pub standing_later : (now : ℕ) (before : List Job) (k : ℕ) (rs : List (List ℕ)) → Standing now before → wrong_later now before k rs ≡ None → Standing now (before ++ jobs_of rs)
 standing_later now before k [] s e = subst (Standing now) (sym (append-nil before)) s
-standing_later now before k (r ∷ rs) s e = elim (cases_Bool (goes_on now before r)) [
+standing_later now before k (r ∷ rs) s e = elim (cases_Bool (is_next_job now before r)) [
   | inl t ↦
-      let parts = goes_on_parts now before r t in
+      let parts = next_job_parts now before r t in
       let kind : is_job_record r ≡ true = ap is_job_record parts.0 in
-      let rest : wrong_later now (before ++ (job_in r ∷ [])) (k + 1) rs ≡ None = sym (cond-true (goes_on now before r) (wrong_later now (before ++ (job_in r ∷ [])) (k + 1) rs) (not_blank k (r ∷ rs)) t) ∙ e in
+      let rest : wrong_later now (before ++ (job_in r ∷ [])) (k + 1) rs ≡ None = sym (cond-true (is_next_job now before r) (wrong_later now (before ++ (job_in r ∷ [])) (k + 1) rs) (not_blank k (r ∷ rs)) t) ∙ e in
       let all = standing_later now (before ++ (job_in r ∷ [])) (k + 1) rs (standing_push now before (job_in r) s parts.1) rest in
       subst (Standing now) (append_assoc before (job_in r ∷ []) (jobs_of rs) ∙ ap (λ js. before ++ js) (sym (jobs_of_more r rs kind))) all
   | inr f ↦
-      let rest : not_blank k (r ∷ rs) ≡ None = sym (cond-false (goes_on now before r) (wrong_later now (before ++ (job_in r ∷ [])) (k + 1) rs) (not_blank k (r ∷ rs)) f) ∙ e in
+      let rest : not_blank k (r ∷ rs) ≡ None = sym (cond-false (is_next_job now before r) (wrong_later now (before ++ (job_in r ∷ [])) (k + 1) rs) (not_blank k (r ∷ rs)) f) ∙ e in
       let kind : is_job_record r ≡ false = ap is_job_record (first_blank k r rs rest) in
       subst (Standing now) (sym (append-nil before) ∙ ap (λ js. before ++ js) (sym (jobs_of_none r rs kind))) s
 ]

@@ -14,9 +14,9 @@ use Rattle.layout.proofs.BigEndian.{number-bytes}
 use Rattle.book.specs.declared.job.Job.{Job}
 use Rattle.book.specs.Jobs.{is_before, has_ticket, is_open}
 use Rattle.book.specs.Book.{OpenAt}
-use Rattle.book.specs.Images.{job_record, blank_record, job_in, can_be_open, goes_on, not_blank, wrong_later}
+use Rattle.book.specs.Images.{job_record, blank_record, job_in, can_be_open, is_next_job, not_blank, wrong_later}
 use Rattle.book.specs.Loads.{Sized}
-use Rattle.book.proofs.Images.{all_before, map_none, Standing, Follows, bytes_fit, standing_push, goes_on_parts, jobs_of, jobs_of_more, jobs_of_none}
+use Rattle.book.proofs.Images.{all_before, map_none, Standing, Follows, bytes_fit, standing_push, next_job_parts, jobs_of, jobs_of_more, jobs_of_none}
 
 -- the test of a job that is open
 test_from_open : (now : ℕ) (j : Job) → OpenAt now j → can_be_open now j ≡ true
@@ -57,25 +57,25 @@ follows now before j js s =
           ne_eqb (get_or before k d).ticket j.ticket (λ e. apart (ap (λ x. x.ticket) left ∙ (e ∙ sym (ap (λ x. x.ticket) right)))));
     }
 
--- the record of a job that follows those before goes on
-goes_on_job : (now : ℕ) (before : List Job) (j : Job) → Sized j → Follows now before j → goes_on now before (job_record j) ≡ true
-goes_on_job now before j s f =
+-- the record of a job that follows those before is that of a next job
+follower_is_next : (now : ℕ) (before : List Job) (j : Job) → Sized j → Follows now before j → is_next_job now before (job_record j) ≡ true
+follower_is_next now before j s f =
     let says = said now j f.open_at s in
     subst (λ i. (bytes_eq (job_record j) (job_record i) && (can_be_open now i && (list_all (λ k. is_before k i) before && not (is_open i.ticket before)))) ≡ true) (sym says)
     (and_from _ _ ((bytes_eq-Decides (job_record j) (job_record j)).1 refl)
     (and_from _ _ (test_from_open now j f.open_at) (and_from _ _ ((all_before j before).1 f.after) (not_from_false _ f.closed))))
 
--- a blank record does not
-blank_stops : (now : ℕ) (before : List Job) → goes_on now before blank_record ≡ false
+-- a blank record is not
+blank_stops : (now : ℕ) (before : List Job) → is_next_job now before blank_record ≡ false
 blank_stops now before = refl
 
 -- one step of the search for a wrong record
-later_on : (now : ℕ) (before : List Job) (k : ℕ) (r : List ℕ) (rs : List (List ℕ)) → goes_on now before r ≡ true → wrong_later now before k (r ∷ rs) ≡ wrong_later now (before ++ (job_in r ∷ [])) (k + 1) rs
-later_on now before k r rs e = cond-true (goes_on now before r) (wrong_later now (before ++ (job_in r ∷ [])) (k + 1) rs) (not_blank k (r ∷ rs)) e
+later_on : (now : ℕ) (before : List Job) (k : ℕ) (r : List ℕ) (rs : List (List ℕ)) → is_next_job now before r ≡ true → wrong_later now before k (r ∷ rs) ≡ wrong_later now (before ++ (job_in r ∷ [])) (k + 1) rs
+later_on now before k r rs e = cond-true (is_next_job now before r) (wrong_later now (before ++ (job_in r ∷ [])) (k + 1) rs) (not_blank k (r ∷ rs)) e
 
 -- where the jobs end
-later_blank : (now : ℕ) (before : List Job) (k : ℕ) (r : List ℕ) (rs : List (List ℕ)) → goes_on now before r ≡ false → wrong_later now before k (r ∷ rs) ≡ not_blank k (r ∷ rs)
-later_blank now before k r rs e = cond-false (goes_on now before r) (wrong_later now (before ++ (job_in r ∷ [])) (k + 1) rs) (not_blank k (r ∷ rs)) e
+later_blank : (now : ℕ) (before : List Job) (k : ℕ) (r : List ℕ) (rs : List (List ℕ)) → is_next_job now before r ≡ false → wrong_later now before k (r ∷ rs) ≡ not_blank k (r ∷ rs)
+later_blank now before k r rs e = cond-false (is_next_job now before r) (wrong_later now (before ++ (job_in r ∷ [])) (k + 1) rs) (not_blank k (r ∷ rs)) e
 
 -- whether a record is not blank
 abbrev filled : List ℕ → Bool
@@ -93,7 +93,7 @@ place_of k (Some i) x e = (i, refl, cc)
 -- the wrong record has a number among those of the records
 pub within : (now : ℕ) (before : List Job) (k : ℕ) (rs : List (List ℕ)) (x : ℕ) → wrong_later now before k rs ≡ Some x → (i : ℕ) × (i < length rs) × (k + i ≡ x)
 within now before k [] x e = absurd (cc)
-within now before k (r ∷ rs) x e = elim (cases_Bool (goes_on now before r)) [
+within now before k (r ∷ rs) x e = elim (cases_Bool (is_next_job now before r)) [
   | inl t ↦
       let more = within now (before ++ (job_in r ∷ [])) (k + 1) rs x (sym (later_on now before k r rs t) ∙ e) in
       (suc more.0, omega (arith, more.1), omega (arith, more.2))
@@ -124,7 +124,7 @@ passes : (now : ℕ) (before : List Job) (j : Job) (js : List Job) (k : ℕ) (r 
     → wrong_later now before k (r ∷ rs) ≡ x → wrong_later now (before ++ (j ∷ [])) (k + 1) rs ≡ x
 passes now before j js k r rs x s fit same e =
     let f = follows now before j js s in
-    let on : goes_on now before r ≡ true = ap (goes_on now before) same ∙ goes_on_job now before j fit f in
+    let on : is_next_job now before r ≡ true = ap (is_next_job now before) same ∙ follower_is_next now before j fit f in
     let says : job_in r ≡ j = ap job_in same ∙ said now j f.open_at fit in
     ap (λ i. wrong_later now (before ++ (i ∷ [])) (k + 1) rs) (sym says) ∙ (sym (later_on now before k r rs on) ∙ e)
 
@@ -145,7 +145,7 @@ never_wrong now before (j ∷ js) n k (suc i) (r ∷ rs) s fit same e =
 never_wrong now before [] zero k i (r ∷ rs) s fit same e = cc
 never_wrong now before [] (suc n) k i (r ∷ rs) s fit same e =
     let here : r ≡ blank_record = cc in
-    let off : goes_on now before r ≡ false = ap (goes_on now before) here ∙ blank_stops now before in
+    let off : is_next_job now before r ≡ false = ap (is_next_job now before) here ∙ blank_stops now before in
     let found = place_of k (position filled (r ∷ rs)) (k + i) (sym (later_blank now before k r rs off) ∙ e) in
     let at : found.0 ≡ i = omega (arith, found.2) in
     let is_filled = (position-Some filled (r ∷ rs) found.0 blank_record found.1).1 in
@@ -221,9 +221,9 @@ showing_more now before r rs e s = record {
 pub begins : (now : ℕ) (before : List Job) (k i : ℕ) (rs : List (List ℕ)) → Standing now before → wrong_later now before k rs ≡ Some (k + i) → Showing now before (take i rs)
 begins now before k zero rs s e = showing_blank now before [] 0 s refl
 begins now before k (suc i) [] s e = absurd (cc)
-begins now before k (suc i) (r ∷ rs) s e = elim (cases_Bool (goes_on now before r)) [
+begins now before k (suc i) (r ∷ rs) s e = elim (cases_Bool (is_next_job now before r)) [
   | inl t ↦
-      let parts = goes_on_parts now before r t in
+      let parts = next_job_parts now before r t in
       let number : k + suc i ≡ k + 1 + i = omega arith in
       showing_more now before r (take i rs) parts.0
       (begins now (before ++ (job_in r ∷ [])) (k + 1) i rs (standing_push now before (job_in r) s parts.1) (sym (later_on now before k r rs t) ∙ (e ∙ ap (λ x. Some x) number)))
@@ -241,9 +241,9 @@ not_found p (x ∷ xs) none = let rest = not_found p xs in grind (arith, nat_tes
 -- where none is wrong, all records do
 pub shows_all : (now : ℕ) (before : List Job) (k : ℕ) (rs : List (List ℕ)) → Standing now before → wrong_later now before k rs ≡ None → Showing now before rs
 shows_all now before k [] s e = showing_blank now before [] 0 s refl
-shows_all now before k (r ∷ rs) s e = elim (cases_Bool (goes_on now before r)) [
+shows_all now before k (r ∷ rs) s e = elim (cases_Bool (is_next_job now before r)) [
   | inl t ↦
-      let parts = goes_on_parts now before r t in
+      let parts = next_job_parts now before r t in
       showing_more now before r rs parts.0 (shows_all now (before ++ (job_in r ∷ [])) (k + 1) rs (standing_push now before (job_in r) s parts.1) (sym (later_on now before k r rs t) ∙ e))
   | inr f ↦
       let none = map_none (λ i. k + i) (position filled (r ∷ rs)) (sym (later_blank now before k r rs f) ∙ e) in

@@ -78,9 +78,9 @@ can_be_open now j =
 abbrev pub is_clock : List ℕ → Bool
 is_clock r = bytes_eq r (clock_record (arrival_of r) (work_of r)) && (nat_le 1 (work_of r) && nat_le (work_of r) 255)
 
--- whether a record can stand after those of the jobs before: it is that of a job that is served after them and can be open besides them
-abbrev pub goes_on : (now : ℕ) (before : List Job) → List ℕ → Bool
-goes_on now before r =
+-- whether a record is that of a next job after those before: of a job that is served after them and can be open besides them
+abbrev pub is_next_job : (now : ℕ) (before : List Job) → List ℕ → Bool
+is_next_job now before r =
     let j = job_in r in
     bytes_eq r (job_record j) && (can_be_open now j && (list_all (λ k. is_before k j) before && not (is_open j.ticket before)))
 
@@ -89,11 +89,11 @@ abbrev pub not_blank : (k : ℕ) → List (List ℕ) → Option ℕ
 not_blank k rs = option_map (λ i. k + i) (position (λ r. not (bytes_eq r blank_record)) rs)
 
 -- the number of the first record that is wrong, of the records from number k on, which stand after those of the jobs before:
--- as long as they go on they are jobs, and the rest has to be blank
+-- as long as they are next jobs they go to the jobs before, and the rest has to be blank
 abbrev pub wrong_later : (now : ℕ) (before : List Job) (k : ℕ) → List (List ℕ) → Option ℕ
 wrong_later now before k [] = None
 wrong_later now before k (r ∷ rs) =
-    if goes_on now before r then wrong_later now (before ++ (job_in r ∷ [])) (k + 1) rs else not_blank k (r ∷ rs)
+    if is_next_job now before r then wrong_later now (before ++ (job_in r ∷ [])) (k + 1) rs else not_blank k (r ∷ rs)
 
 -- the number of the first record of a list that is wrong
 abbrev pub wrong_record : List ℕ → Option ℕ

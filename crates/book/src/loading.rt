@@ -3,8 +3,8 @@ ghost use Rattle.std.specs.Prelude.{◌≡◌, ◌≤◌, Some, None, [], length
 ghost use Rattle.std.specs.Option.{option_map};
 ghost use Rattle.layout.specs.Layout.{arrival_of, work_of};
 ghost use Rattle.book.specs.Book.{last_tick};
-ghost use Rattle.book.specs.Images.{job_in, is_job_record, is_clock, goes_on, wrong_later, load_fault, book_in};
-ghost use Rattle.book.specs.Reading.{going_on, unless};
+ghost use Rattle.book.specs.Images.{job_in, is_job_record, is_clock, is_next_job, wrong_later, load_fault, book_in};
+ghost use Rattle.book.specs.Reading.{leading_jobs, unless};
 
 use super::book::Book;
 use super::fault::BookFault;
@@ -64,7 +64,7 @@ impl Job {
 // The job that the record says, where it can stand after those of the jobs.
 fn next_job(jobs: &Table, now: u64, bytes: &[u8; RECORD_LEN]) -> Option<Job>
     requires { now ≤ last_tick }
-    ensures { result ≡ (if goes_on now jobs.now bytes.now then Some (job_in bytes.now) else None) }
+    ensures { result ≡ (if is_next_job now jobs.now bytes.now then Some (job_in bytes.now) else None) }
 {
     let job = Job::of_record(bytes);
     if *bytes != job.to_record() || !job.can_be_open(now) {
@@ -76,11 +76,11 @@ fn next_job(jobs: &Table, now: u64, bytes: &[u8; RECORD_LEN]) -> Option<Job>
     Some(job)
 }
 
-// The jobs of the first records, as long as they go on.
-fn going_on(records: &[[u8; RECORD_LEN]], now: u64) -> Table
+// The jobs of the first records, as long as each is a next job.
+fn leading_jobs(records: &[[u8; RECORD_LEN]], now: u64) -> Table
     requires in_time { now ≤ last_tick }
     requires few { length records.now ≤ 64 }
-    ensures { result ≡ going_on now [] records.now }
+    ensures { result ≡ leading_jobs now [] records.now }
 {
     let mut jobs = Table::new();
     for bytes in records {
@@ -98,7 +98,7 @@ fn read_jobs(records: &[[u8; RECORD_LEN]], now: u64) -> Result<Table, BookFault>
     requires few { length records.now ≤ 64 }
     ensures { result ≡ unless (option_map BookFault.Image (wrong_later now [] 1 records.now)) (map job_in (take_while is_job_record records.now)) }
 {
-    let jobs = going_on(records, now);
+    let jobs = leading_jobs(records, now);
     let count = jobs.jobs().len();
     match records[count..].iter().position(|bytes| *bytes != BLANK) {
         None => Ok(jobs),
