@@ -13,7 +13,7 @@ use Rattle.book.specs.Book.{View, last_tick}
 use Rattle.book.specs.Calls.{Outcome, answer_of, outcome, overload_in}
 use Rattle.book.specs.Settings.{Listing}
 
--- the record of now and the top
+-- the record of now and the top: now stands where a job has its arrival (bytes 4 to 9), and the top where it has its work (16 and 17)
 abbrev pub clock_record : (now top : ℕ) → List ℕ
 clock_record now top = fields_out 0x43 0 now 0 top (replicate 6 0)
 

@@ -14,7 +14,7 @@ pub record Sized (j : Job) : Type 0 where
   pub ticket : j.ticket < 2 ^ 16
   pub work : j.work < 2 ^ 16
 
--- if the place holds a job, it is one
+-- the job at the place, if there is one, has these sizes
 abbrev pub SizedAt : ℕ → List Job → Type 0
 SizedAt place jobs = (d : Job) → place < length jobs → Sized (slice_index_or jobs place d)
 
@@ -39,7 +39,7 @@ pub record FirstWrong (k : ℕ) (list : List ℕ) : Type 0 where
 pub record OnlyImages (list : List ℕ) (answer : Result (Unit {0}) BookFault) (after : View) : Type 0 where
   -- it is accepted just where it shows a lawful book
   pub accepted : IsOk answer ↔ ((b : View) × Lawful b × AllSized b × Shows list b)
-  -- and the book is that one then
+  -- and the book is that one then; so an accepted image is the only one of its book: its first 1,560 bytes are the image of the book afterwards
   pub same : (b : View) → Lawful b → AllSized b → Shows list b → after ≡ b
   -- the record that a refusal names is the first wrong one
   pub named : (k : ℕ) → answer ≡ Err (Image k) → k < 65 → FirstWrong k list

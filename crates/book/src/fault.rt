@@ -36,7 +36,7 @@ pub enum BookFault {
     Short { needed: usize },
     /// Now is the last tick of all.
     LastTick { now: u64 },
-    /// No lawful image, overload allowed, has the record after those before it; or overload alone is wrong, which the number after the last record says.
+    /// The record with this number is the first that no lawful image, overload allowed, has after those before it; 65 where overload alone is wrong.
     Image { number: usize },
 }
 
