@@ -53,7 +53,7 @@ fn write(blocks: &[planner::Block], now: u64, list: &mut [Block]) -> usize
 impl Book {
     /// Writes the critical blocks into the first places of the list, in the order of the rounds, and answers how many there are.
     ///
-    /// Refuses a list of fewer than 64 places, and leaves it as it was.
+    /// Refuses a list of fewer than 64 places ([`BookFault::Short`]), and leaves it as it was.
     pub fn blocks(&self, list: &mut [Block]) -> Result<usize, BookFault>
         ensures answer { result ≡ (blocked self.entry.now list.old).answer }
         ensures list { list.new ≡ (blocked self.entry.now list.old).list }

@@ -71,7 +71,7 @@ impl Book {
 
     /// Writes the image of the book into the first 1560 places of the list.
     ///
-    /// Refuses a list that has fewer, and leaves it as it was.
+    /// Refuses a list that has fewer ([`BookFault::Short`]), and leaves it as it was.
     pub fn save(&self, list: &mut [u8]) -> Result<(), BookFault>
         ensures answer { result ≡ (saved self.entry.now list.old).answer }
         ensures list { list.new ≡ (saved self.entry.now list.old).list }

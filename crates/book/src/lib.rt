@@ -1,5 +1,5 @@
-//! The book: now, the top and the open jobs, with the calls that open it, offer a job and strike one, write the settings in force and
-//! bill them, and serve a tick.
+//! The book: now, the top and the open jobs, with all its calls. They open it, offer a job and strike one, write the settings in force, bill them, write the
+//! critical blocks, save an image of the book and load one, and serve a tick.
 //!
 //! ```text
 //! let mut book = Book::new();
@@ -11,6 +11,11 @@
 //! book.settings(&mut list)?;
 //! // 8 + 1 = 9, where a setting draws its cube.
 //! let bill = book.bill(&Cube::new(0, 1)?);
+//! // 1, and the first block is Block { speed: (3, 2), start: 0, end: 2 }.
+//! let count = book.blocks(&mut blocks)?;
+//! // The image has 65 records of 24 bytes, and makes the other book one like this.
+//! book.save(&mut image)?;
+//! other.load(&image)?;
 //! // Served { setting: 2, count: 1 }, and the first entry is Entry { ticket: 7, units: 2 }.
 //! let served = book.tick(&mut entries)?;
 //! book.strike(7)?;
