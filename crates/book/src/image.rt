@@ -13,8 +13,8 @@ use record::Numbers;
 // How many records an image has.
 pub(super) const RECORDS: usize = 1 + PLACES;
 
-// The bytes of an image.
-pub(super) const IMAGE_LEN: usize = RECORDS * RECORD_LEN;
+/// How many bytes an image has.
+pub const IMAGE_LEN: usize = RECORDS * RECORD_LEN;
 
 // The first byte of the record of now and the top.
 const CLOCK: u8 = 0x43;

@@ -40,6 +40,8 @@ mod tick;
 pub use blocks::Block;
 pub use book::Book;
 pub use fault::{BookFault, BookField};
+pub use image::IMAGE_LEN;
 pub use job::Job;
+pub use settings::SETTINGS;
 pub use table::PLACES;
 pub use tick::{Entry, Served};

@@ -11,8 +11,8 @@ use super::fault::BookFault;
 use super::job::Job;
 use super::table::PLACES;
 
-// How many settings there are: one for each tick from now on.
-const SETTINGS: usize = 256;
+/// How many settings are in force: one for each tick from now on.
+pub const SETTINGS: usize = 256;
 
 // The settings in force for open jobs.
 pub(super) fn settings_in_force(jobs: &[Job], now: u64) -> [u32; 256]
