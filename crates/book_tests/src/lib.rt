@@ -1,5 +1,5 @@
-//! Tests of the book: each refusal at its edges, the order of the open jobs, overloads against a search of another kind, critical
-//! blocks, and what is told of its faults.
+//! Tests of the book: each refusal at its edges, the order of the open jobs, overloads against a search of another kind, settings, bills,
+//! ticks, critical blocks, images and which of their records is wrong, and what is told of its faults.
 #![tactic(auto)]
 
 #[cfg(test)]
