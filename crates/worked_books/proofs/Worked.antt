@@ -8,27 +8,28 @@ use Rattle.schedule.specs.Certificate.{listed}
 use Rattle.schedule.proofs.Theory.{theory}
 use Rattle.worked_books.specs.WorkedBooks.{NoJob, Uneven, Nested, Even, SameDeadline, LowTop, Together, Full, TooFull, Models, WorkedBooks}
 use Rattle.worked_books.proofs.Offers.{worked, overloads}
+use Rattle.worked_books.proofs.Writing.{sets, at_all_ticks, has_blocks}
 use Rattle.worked_books.proofs.Serving.{serves}
 use Rattle.worked_books.proofs.Billing.{drawn_same}
 
 no_job : NoJob
 unfolding horizon
-no_job = worked _ _ _ refl tt (theory.examples.nothing, drawn_same (cube_draw 10 1) _ (listed []) theory.examples.nothing ∙ refl)
+no_job = worked _ _ _ refl tt (sets _ _ theory.examples.nothing, drawn_same (cube_draw 10 1) _ (listed []) theory.examples.nothing ∙ refl)
 
 uneven : Uneven
 unfolding horizon
-uneven = worked _ _ _ refl (refl, (refl, tt)) theory.examples.uneven
+uneven = worked _ _ _ refl (refl, (refl, tt)) (sets _ _ theory.examples.uneven)
 
 nested : Nested
 unfolding horizon
 nested =
     let xs = 1 ∷ 1 ∷ 1 ∷ 1 ∷ 3 ∷ 3 ∷ [] in
     let same = (theory.computing.certified 10 (demand 4 6 6 ∷ demand 0 10 4 ∷ []) xs (lit≤ tt) refl).1 in
-    worked _ _ _ refl (refl, (refl, tt)) (refl, same, drawn_same (cube_draw 0 1) _ (listed xs) same ∙ refl)
+    worked _ _ _ refl (refl, (refl, tt)) (has_blocks _ _ refl, sets _ _ same, drawn_same (cube_draw 0 1) _ (listed xs) same ∙ refl)
 
 even : Even
 unfolding horizon
-even = worked _ _ _ refl (refl, (refl, tt)) theory.examples.level
+even = worked _ _ _ refl (refl, (refl, tt)) (sets _ _ theory.examples.level)
 
 same_deadline : SameDeadline
 unfolding horizon
@@ -46,7 +47,7 @@ together = worked _ _ _ refl (refl, tt) (overloads _ _ _ _ _ refl)
 
 full : Full
 unfolding horizon
-full = worked _ _ _ refl (refl, tt) (theory.computing.even 255)
+full = worked _ _ _ refl (refl, tt) (sets _ _ (at_all_ticks _ 255 (theory.computing.even 255)))
 
 too_full : TooFull
 unfolding horizon

@@ -8,12 +8,14 @@ use Rattle.power.specs.declared.fault.PowerFault.TheVariants.{Broken}
 use Rattle.power.specs.Loading.{load_answer}
 use Rattle.power.specs.Refusals.{power_refusal}
 use Rattle.book.specs.declared.job.Job.{Job}
+use Rattle.book.specs.declared.blocks.Block.{Block}
 use Rattle.book.specs.declared.fault.BookFault.TheVariants.{Overload}
 use Rattle.book.specs.declared.tick.Entry.{Entry}
 use Rattle.book.specs.Refusals.{book_refusal}
 use Rattle.book.specs.Book.{View, empty_book}
 use Rattle.book.specs.Calls.{opened, offered}
-use Rattle.book.specs.Settings.{settings_of}
+use Rattle.book.specs.Settings.{settings_of, listing}
+use Rattle.book.specs.Blocks.{blocked}
 use Rattle.book.specs.Ticks.{shares_of, entries, ticked}
 
 -- a job by its ticket, its window [arrival, deadline) and its work
@@ -40,9 +42,15 @@ pub record Worked (top : ℕ) (jobs : List Job) (Says : View → Type 0) : Type 
   pub accepts : AllAccepted (opened_at_0 top) jobs
   pub says : Says (after_offers (opened_at_0 top) jobs)
 
--- the settings in force are xs, and 0 after them
-abbrev pub Sets : View → List ℕ → Type 0
-Sets b xs = Same horizon (settings_of b) (listed xs)
+-- given a list of 256 places, settings writes xs there, and 0 after them
+pub record Sets (b : View) (xs : List ℕ) : Type 0 where
+  pub answer : (list : List ℕ) → length list ≡ 256 → (listing b list).answer ≡ Ok tt
+  pub written : (list : List ℕ) → length list ≡ 256 → Same horizon (listed (listing b list).list) (listed xs)
+
+-- given a list of 64 places, blocks writes the critical blocks cs into the first places, and answers their number
+pub record HasBlocks (b : View) (cs : List Block) : Type 0 where
+  pub answer : (list : List Block) → length list ≡ 64 → (blocked b list).answer ≡ Ok (length cs)
+  pub written : (list : List Block) → length list ≡ 64 → take (length cs) (blocked b list).list ≡ cs
 
 -- a tick at the setting makes the entries es, and is answered with the setting and their number
 pub record Serves (b : View) (setting : ℕ) (es : List Entry) : Type 0 where

@@ -1,11 +1,8 @@
 -- The worked books. Each begins with now 0. [a, d) w is a job with arrival a, deadline d and work w.
 use Rattle.std.specs.Prelude.{◌≡◌, [], ◌∷◌, replicate}
-use Rattle.schedule.specs.InForce.{horizon, Same}
 use Rattle.power.specs.Draws.{cube_draw, floor_draw}
-use Rattle.book.specs.Settings.{settings_of}
-use Rattle.book.specs.Blocks.{blocks_of}
 use Rattle.book.specs.Bills.{bill_of}
-use Rattle.worked_books.specs.Words.{job, Worked, Sets, Serves, Overloads, Breaks}
+use Rattle.worked_books.specs.Words.{job, Worked, Sets, HasBlocks, Serves, Overloads, Breaks}
 
 -- 1. no job: all 256 settings are 0, and the cube model with the fixed draw 10 and the factor 1 bills 256 times 10
 abbrev pub NoJob : Type 0
@@ -19,7 +16,7 @@ Uneven = Worked 4 (job 1 0 2 3 ∷ job 2 0 3 1 ∷ []) (λ b. Sets b (2 ∷ 1 �
 -- the second 4 units in the 8 other ticks before 10; and the cube model with the fixed draw 0 and the factor 1 bills 4 times 1 and 2 times 27
 abbrev pub Nested : Type 0
 Nested = Worked 4 (job 1 0 10 4 ∷ job 2 4 6 6 ∷ []) (λ b.
-    (blocks_of b ≡ record { speed = (6, 2); start = 4; end = 6 } ∷ record { speed = (4, 8); start = 0; end = 10 } ∷ [])
+    HasBlocks b (record { speed = (6, 2); start = 4; end = 6 } ∷ record { speed = (4, 8); start = 0; end = 10 } ∷ [])
     × Sets b (1 ∷ 1 ∷ 1 ∷ 1 ∷ 3 ∷ 3 ∷ [])
     × (bill_of (cube_draw 0 1) b ≡ 58))
 
@@ -41,7 +38,7 @@ Together = Worked 4 (job 1 0 4 14 ∷ []) (λ b. Overloads b (job 2 2 4 4) 0 4 1
 
 -- 7. [0, 256) with as much work as the top 255 can do there: every setting is 255
 abbrev pub Full : Type 0
-Full = Worked 255 (job 1 0 256 65280 ∷ []) (λ b. Same horizon (settings_of b) (λ _. 255))
+Full = Worked 255 (job 1 0 256 65280 ∷ []) (λ b. Sets b (replicate 256 255))
 
 -- and with the most work that a job can bring: refused
 abbrev pub TooFull : Type 0
