@@ -6,7 +6,7 @@
 ghost use Rattle.std.specs.Prelude.{◌≡◌};
 ghost use Rattle.worked_books.specs.WorkedBooks.{WorkedBooks};
 
-/// The number of worked cases. Its contract holds the whole table, so that no entry can go missing.
+/// How many worked books there are. Its contract holds the table of them.
 #[tactic(auto, using(crate::proofs::Worked::all_worked))]
 pub fn worked_books() -> usize
     ensures count { result ≡ 8 }
