@@ -3,7 +3,7 @@ use Rattle.std.proofs.Common.{[], ◌∷◌, ◌∙◌, refl, lit<, lit≤}
 use Rattle.power.specs.Breaks.{first_break}
 use Rattle.power.specs.Draws.{cube_draw}
 use Rattle.schedule.specs.InForce.{horizon}
-use Rattle.schedule.specs.Demands.{job as demand}
+use Rattle.schedule.specs.Demands.{job as window}
 use Rattle.schedule.specs.Certificate.{listed}
 use Rattle.schedule.proofs.Theory.{theory}
 use Rattle.worked_books.specs.WorkedBooks.{NoJob, Uneven, Nested, Even, SameDeadline, LowTop, Together, Full, TooFull, Models, WorkedBooks}
@@ -24,7 +24,7 @@ nested : Nested
 unfolding horizon
 nested =
     let xs = 1 ∷ 1 ∷ 1 ∷ 1 ∷ 3 ∷ 3 ∷ [] in
-    let same = (theory.computing.certified 10 (demand 4 6 6 ∷ demand 0 10 4 ∷ []) xs (lit≤ tt) refl).1 in
+    let same = (theory.computing.certified 10 (window 4 6 6 ∷ window 0 10 4 ∷ []) xs (lit≤ tt) refl).1 in
     worked _ _ _ refl (refl, (refl, tt)) (has_blocks _ _ refl, sets _ _ same, drawn_same (cube_draw 0 1) _ (listed xs) same ∙ refl)
 
 even : Even
@@ -34,7 +34,7 @@ even = worked _ _ _ refl (refl, (refl, tt)) (sets _ _ theory.examples.level)
 same_deadline : SameDeadline
 unfolding horizon
 same_deadline =
-    let same = (theory.computing.certified 1 (demand 0 1 2 ∷ demand 0 1 2 ∷ []) (4 ∷ []) (lit≤ tt) refl).1 in
+    let same = (theory.computing.certified 1 (window 0 1 2 ∷ window 0 1 2 ∷ []) (4 ∷ []) (lit≤ tt) refl).1 in
     worked _ _ _ refl (refl, (refl, tt)) (serves _ 4 _ refl (same 0 (lit< tt)) refl)
 
 low_top : LowTop
