@@ -7,10 +7,10 @@ ghost use Rattle.book.specs.Book.{last_tick};
 ghost use Rattle.book.specs.Blocks.{from_now, blocked};
 
 use super::book::Book;
-use super::demands::{NO_DEMAND, demands_of};
+use super::demands::demands_of;
 use super::fault::BookFault;
 use super::table::PLACES;
-use planner::critical_blocks;
+use planner::{NO_DEMAND, critical_blocks};
 
 /// A critical block: ticks with the same exact speed.
 #[derive(Clone, Copy, PartialEq, Eq, Debug)]

@@ -7,13 +7,6 @@ use super::job::Job;
 use super::table::PLACES;
 use planner::{Demand, Demands};
 
-// What stands in a place that no demand takes.
-pub(super) const NO_DEMAND: Demand = Demand {
-    from: 0,
-    to: 0,
-    units: 0,
-};
-
 impl Job {
     ghost use Rattle.book.specs.Demands.{demand};
 

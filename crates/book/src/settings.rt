@@ -6,10 +6,11 @@ ghost use Rattle.book.specs.Demands.{demands};
 ghost use Rattle.book.specs.Book.{OpenAt, InOrder};
 
 use super::book::Book;
-use super::demands::{NO_DEMAND, demands_of};
+use super::demands::demands_of;
 use super::fault::BookFault;
 use super::job::Job;
 use super::table::PLACES;
+use planner::NO_DEMAND;
 
 /// How many settings are in force: one for each tick from now on.
 pub const SETTINGS: usize = 256;

@@ -24,6 +24,13 @@ impl Model for Demand {
     ghost inverse = { λ d. record { from = d.from; to = d.to; units = d.units } };
 }
 
+/// A demand of no ticks and no units, for the places that no open job takes.
+pub const NO_DEMAND: Demand = Demand {
+    from: 0,
+    to: 0,
+    units: 0,
+};
+
 /// Demands that settings can be made for: at most 64, each with its window within 256 ticks, in order of deadline.
 ///
 /// `new` tests a list. Where it is known to be such a list, `Demands { list }` tests nothing.

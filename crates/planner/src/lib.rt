@@ -47,7 +47,7 @@ mod search;
 mod ticks;
 
 pub use blocks::{Block, Blocks, critical_blocks};
-pub use demands::{Demand, Demands};
+pub use demands::{Demand, Demands, NO_DEMAND};
 use hull::Hull;
 use plan::Plan;
 use queue::LoadedTick;

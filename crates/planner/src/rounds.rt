@@ -12,18 +12,11 @@ ghost use Rattle.planner.specs.Plannable.{Plannable};
 ghost use Rattle.planner.specs.Blocks.{critical_blocks};
 
 use super::blocks::Block;
-use super::demands::{Demand, Demands};
+use super::demands::{Demand, Demands, NO_DEMAND};
 use super::pair::Pair;
 use super::search::best_pair;
 use super::ticks::{compressed_times, first_tick, past_tick, take_ticks, taken_ticks};
 use std::marker::Model;
-
-// What stands in a place that no demand takes.
-const NO_DEMAND: Demand = Demand {
-    from: 0,
-    to: 0,
-    units: 0,
-};
 
 impl Demand {
     // The demand as seen in compressed time.
