@@ -1,5 +1,5 @@
 // The ticks of a round, and compressed time.
-ghost use Rattle.std.specs.Prelude.{◌≡◌, ℕ, ◌<◌, ◌≤◌, length, slice_index, ◌&&◌, not};
+ghost use Rattle.std.specs.Prelude.{◌≡◌, ℕ, ◌<◌, ◌≤◌, length, ◌&&◌, not};
 ghost use Rattle.schedule.specs.Certificate.{listed};
 ghost use Rattle.schedule.specs.Compressed.{compressed};
 ghost use Rattle.schedule.specs.Rounds.{between};

@@ -1,5 +1,5 @@
 // One line of the transcript.
-ghost use Rattle.std.specs.Prelude.{◌≡◌, Some, take};
+ghost use Rattle.std.specs.Prelude.{Some, take};
 ghost use Rattle.transcript.specs.Entries.{entry_of};
 ghost use Rattle.transcript.specs.Text.{entry_text, tick_text};
 
