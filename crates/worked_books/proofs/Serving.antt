@@ -10,8 +10,6 @@ use Rattle.worked_books.specs.Words.{Serves}
 pub serves : (b : View) (setting : ℕ) (es : List Entry) → (b.now == last_tick) ≡ false → settings_of b 0 ≡ setting
     → entries (shares b.now setting b.jobs) ≡ es → Serves b setting es
 serves b setting es more first at_setting = record {
-  first = first;
-  shared = shared;
   answer = λ list enough. rw (enough, more) (λ i. Ok (record { setting = first i; count = length (shared i) }));
   written = λ list enough. rw (enough, more, shared) (take-append_seam es (drop (length es) list));
 }

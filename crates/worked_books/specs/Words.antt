@@ -14,9 +14,9 @@ use Rattle.book.specs.declared.tick.Entry.{Entry}
 use Rattle.book.specs.Refusals.{book_refusal}
 use Rattle.book.specs.Book.{View, empty_book}
 use Rattle.book.specs.Calls.{opened, offered}
-use Rattle.book.specs.Settings.{settings_of, listing}
+use Rattle.book.specs.Settings.{listing}
 use Rattle.book.specs.Blocks.{blocked}
-use Rattle.book.specs.Ticks.{shares_of, entries, ticked}
+use Rattle.book.specs.Ticks.{ticked}
 
 -- a job by its ticket, its window [arrival, deadline) and its work
 abbrev pub job : (ticket arrival deadline work : ℕ) → Job
@@ -52,10 +52,8 @@ pub record HasBlocks (b : View) (cs : List Block) : Type 0 where
   pub answer : (list : List Block) → length list ≡ 64 → (blocked b list).answer ≡ Ok (length cs)
   pub written : (list : List Block) → length list ≡ 64 → take (length cs) (blocked b list).list ≡ cs
 
--- a tick at the setting makes the entries es, and is answered with the setting and their number
+-- given a list of 64 places, tick writes the entries es into the first places, and answers the setting and their number
 pub record Serves (b : View) (setting : ℕ) (es : List Entry) : Type 0 where
-  pub first : settings_of b 0 ≡ setting
-  pub shared : entries (shares_of b) ≡ es
   pub answer : (list : List Entry) → length list ≡ 64 → (ticked b list).answer ≡ Ok (record { setting = setting; count = length es })
   pub written : (list : List Entry) → length list ≡ 64 → take (length es) (ticked b list).list ≡ es
 
