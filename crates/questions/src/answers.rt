@@ -1,8 +1,7 @@
 // What every question answers of a book.
-use super::item::IMAGE_LEN;
 use super::models::Models;
 use anyhow::anyhow;
-use book::{Block, Book, BookFault};
+use book::{Block, Book, BookFault, IMAGE_LEN, PLACES, SETTINGS};
 use layout::RECORD_LEN;
 use refusal::Refusal;
 use std::io::Write;
@@ -19,7 +18,7 @@ fn refused(fault: BookFault) -> anyhow::Error {
 }
 
 fn write_settings<W: Write>(book: &Book, out: &mut W) -> anyhow::Result<()> {
-    let mut list = [0; 256];
+    let mut list = [0; SETTINGS];
     book.settings(&mut list).map_err(refused)?;
     let zeros = list
         .iter()
@@ -27,7 +26,7 @@ fn write_settings<W: Write>(book: &Book, out: &mut W) -> anyhow::Result<()> {
         .take_while(|setting| **setting == 0)
         .count();
     write!(out, "settings")?;
-    for setting in &list[..256 - zeros] {
+    for setting in &list[..SETTINGS - zeros] {
         write!(out, " {setting}")?;
     }
     writeln!(out)?;
@@ -35,7 +34,7 @@ fn write_settings<W: Write>(book: &Book, out: &mut W) -> anyhow::Result<()> {
 }
 
 fn write_blocks<W: Write>(book: &Book, out: &mut W) -> anyhow::Result<()> {
-    let mut list = [NO_BLOCK; 64];
+    let mut list = [NO_BLOCK; PLACES];
     let count = book.blocks(&mut list).map_err(refused)?;
     write!(out, "blocks")?;
     for block in list.iter().take(count) {

@@ -1,14 +1,11 @@
 // A call of the book, and the line that says what it answers.
 use super::item::IMAGE_START;
-use book::{Book, BookFault, Entry, Job, Served};
+use book::{Book, BookFault, Entry, Job, PLACES, Served};
 use layout::{Offer, ReadFault, Record};
 use record::Reader;
 use refusal::Refusal;
 use std::fmt;
 use transcript::Tick;
-
-// How many places a tick needs for its entries.
-const PLACES: usize = 64;
 
 // A place of a list that no entry is written into.
 const NO_ENTRY: Entry = Entry {

@@ -1,13 +1,11 @@
 // The items of a file: images of 1,560 bytes and records of 24 bytes.
 ghost use Rattle.std.specs.Prelude.{◌<◌, ◌≤◌, length};
 
+use book::IMAGE_LEN;
 use layout::RECORD_LEN;
 
 // What an image begins with.
 pub(super) const IMAGE_START: u8 = 0x43;
-
-// The bytes of an image.
-pub(super) const IMAGE_LEN: usize = 1_560;
 
 // The first item, cut where the input ends.
 pub(super) fn first_item(input: &[u8]) -> &[u8]
