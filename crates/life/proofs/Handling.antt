@@ -2,7 +2,7 @@
 use Rattle.std.proofs.Common.{◌≡◌, List, Ok, Err, Result, refl, sym, subst, ◌∙◌}
 use Rattle.book.specs.declared.fault.BookFault.{BookFault}
 use Rattle.book.specs.declared.tick.Entry.{Entry}
-use Rattle.book.specs.declared.tick.Served.{Served as Share}
+use Rattle.book.specs.declared.tick.Served.{Served}
 use Rattle.book.specs.Book.{View}
 use Rattle.book.specs.Calls.{offered, struck}
 use Rattle.book.specs.Ticks.{ticked}
@@ -12,21 +12,20 @@ use Rattle.life.specs.declared.Response.{Response}
 use Rattle.life.specs.Events.{Call, offer, strike, tick, done_or, served_or, written, Answer, Event, event, event_on, book_after}
 use Rattle.life.specs.Life.{Life, EndsIn, longer}
 use Rattle.life.specs.Promises.{Keeps}
-use Rattle.life.specs.Requests.{done_by, served_by, handled, call_of, answer_of, entries_of, event_of}
+use Rattle.life.specs.Requests.{done_by, served_by, handled, call_of, answer_of, event_of}
 use Rattle.life.proofs.Law.{law, ends_longer}
 
--- a call with what it answered and wrote
+-- a call with what it answered and what its list holds afterwards
 abbrev event_with : Call → Answer → List Entry → Event
-event_with c answer es = record { call = c; answer = answer; entries = es }
+event_with c answer list = record { call = c; answer = answer; entries = written answer list }
 
 -- the event of a call that writes no entries
-done_event : (c : Call) (answer : Result (Unit {0}) BookFault) (list : List Entry) → event_with c (answer_of (done_by answer)) (entries_of (done_by answer) list) ≡ event c (done_or answer)
+done_event : (c : Call) (answer : Result (Unit {0}) BookFault) (list : List Entry) → event_with c (answer_of (done_by answer)) list ≡ event c (done_or answer)
 done_event c (Ok u) list = refl
 done_event c (Err fault) list = refl
 
 -- and of one that does
-served_event : (c : Call) (answer : Result Share BookFault) (list : List Entry)
-    → event_with c (answer_of (served_by answer)) (entries_of (served_by answer) list) ≡ event_with c (served_or answer) (written answer list)
+served_event : (c : Call) (answer : Result Served BookFault) (list : List Entry) → event_with c (answer_of (served_by answer)) list ≡ event_with c (served_or answer) list
 served_event c (Ok s) list = refl
 served_event c (Err fault) list = refl
 
@@ -42,11 +41,11 @@ handled_book b (Strike t) list = refl
 handled_book b Tick list = refl
 
 -- every life goes on with it, and keeps the promises
-pub lawful_handled : (b : View) (r : Request) (list : List Entry) (answer : Result Response BookFault) (after : View) (written : List Entry)
-    → answer ≡ (handled b r list).answer → after ≡ (handled b r list).book → written ≡ (handled b r list).list
-    → (life : Life) → EndsIn life b → EndsIn (longer life (event_of r list answer written)) after × Keeps (longer life (event_of r list answer written))
-lawful_handled b r list answer after written answered left wrote life ends =
-    let e = event_of r list answer written in
+pub lawful_handled : (b : View) (r : Request) (list : List Entry) (answer : Result Response BookFault) (after : View) (holds : List Entry)
+    → answer ≡ (handled b r list).answer → after ≡ (handled b r list).book → holds ≡ (handled b r list).list
+    → (life : Life) → EndsIn life b → EndsIn (longer life (event_of r list answer holds)) after × Keeps (longer life (event_of r list answer holds))
+lawful_handled b r list answer after holds answered left wrote life ends =
+    let e = event_of r list answer holds in
     let is : e ≡ event_on b (call_of r list) = (λ i. event_of r list (answered i) (wrote i)) ∙ handled_event b r list in
     let then : EndsIn (longer life e) after = subst (EndsIn (longer life e)) (sym (left ∙ handled_book b r list)) (ends_longer life b e ends is) in
     (then, law (longer life e) after then)

@@ -55,8 +55,8 @@ module _ (t : Tally) (b : View) (list : List Entry) (agrees : Agrees t b) where
 
   -- an answer that is as promised, and a book that agrees with the tally then
   record Answered (x : Ticking) : Type 0 where
-    serving : (s : Served) → served_or x.answer ≡ served s → Serves t b s (written x.answer x.list)
-    agrees_after : Agrees (note_answer t (record { call = tick list; answer = served_or x.answer; entries = written x.answer x.list }) (served_or x.answer)) x.book
+    serving : (s : Served) → served_or x.answer ≡ served s → Serves t b s (written (served_or x.answer) x.list)
+    agrees_after : Agrees (note_answer t (record { call = tick list; answer = served_or x.answer; entries = written (served_or x.answer) x.list }) (served_or x.answer)) x.book
 
   answered : (o : Option BookFault) → tick_fault b list ≡ o → Answered (ticking o b list)
   answered (Some f) e = record { serving = λ s is. absurd (cc); agrees_after = agrees }

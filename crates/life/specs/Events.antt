@@ -49,10 +49,12 @@ abbrev pub number_or : Result ℕ BookFault → Answer
 number_or (Ok n) = number n
 number_or (Err fault) = refused fault
 
--- the entries of a tick, which stand in the first places of its list
-abbrev pub written : Result Served BookFault → List Entry → List Entry
-written (Ok s) list = take s.count list
-written (Err fault) list = []
+-- the entries that a call with this answer wrote: those of a tick stand in the first places of its list
+abbrev pub written : Answer → List Entry → List Entry
+written done list = []
+written (served s) list = take s.count list
+written (number n) list = []
+written (refused fault) list = []
 
 -- a call that writes no entries
 abbrev pub event : Call → Answer → Event
@@ -64,7 +66,8 @@ event_on b (offer j) = event (offer j) (done_or (offered b j).answer)
 event_on b (strike t) = event (strike t) (done_or (struck b t).answer)
 event_on b (tick list) =
     let t = ticked b list in
-    record { call = tick list; answer = served_or t.answer; entries = written t.answer t.list }
+    let answer = served_or t.answer in
+    record { call = tick list; answer = answer; entries = written answer t.list }
 event_on b (settings list) = event (settings list) (done_or (listing b list).answer)
 event_on b (blocks list) = event (blocks list) (number_or (blocked b list).answer)
 event_on b (bill draws) = event (bill draws) (number (bill_of draws b))

@@ -1,5 +1,5 @@
 -- What the requests of a console answer and leave, and the events that they are.
-use Rattle.std.specs.Prelude.{List, [], take, Ok, Err, Result}
+use Rattle.std.specs.Prelude.{List, Ok, Err, Result}
 use Rattle.book.specs.declared.fault.BookFault.{BookFault}
 use Rattle.book.specs.declared.tick.Entry.{Entry}
 use Rattle.book.specs.declared.tick.Served.{Served as Share}
@@ -10,7 +10,7 @@ use Rattle.life.specs.declared.Request.{Request}
 use Rattle.life.specs.declared.Request.TheVariants.{Offer, Strike, Tick}
 use Rattle.life.specs.declared.Response.{Response}
 use Rattle.life.specs.declared.Response.TheVariants.{Done, Served}
-use Rattle.life.specs.Events.{Call, offer, strike, tick, Answer, done, served, refused, Event}
+use Rattle.life.specs.Events.{Call, offer, strike, tick, Answer, done, served, refused, written, Event}
 
 -- what a request answers, the book that it leaves, and what its list holds afterwards
 pub record Handling : Type 0 where
@@ -49,12 +49,6 @@ answer_of (Ok Done) = done
 answer_of (Ok (Served s)) = served s
 answer_of (Err fault) = refused fault
 
--- the entries that stand in the list after an answer
-abbrev pub entries_of : Result Response BookFault → List Entry → List Entry
-entries_of (Ok Done) list = []
-entries_of (Ok (Served s)) list = take s.count list
-entries_of (Err fault) list = []
-
 -- the event that a request with the list was, which answered so and left the list like this
 abbrev pub event_of : Request → (before : List Entry) → Result Response BookFault → (after : List Entry) → Event
-event_of request before answer after = record { call = call_of request before; answer = answer_of answer; entries = entries_of answer after }
+event_of request before answer after = record { call = call_of request before; answer = answer_of answer; entries = written (answer_of answer) after }
