@@ -2,7 +2,7 @@
 use Rattle.std.specs.Prelude.{List, Ok, Err, Result}
 use Rattle.book.specs.declared.fault.BookFault.{BookFault}
 use Rattle.book.specs.declared.tick.Entry.{Entry}
-use Rattle.book.specs.declared.tick.Served.{Served as Share}
+use Rattle.book.specs.declared.tick.Served.{Served as TickServed}
 use Rattle.book.specs.Book.{View}
 use Rattle.book.specs.Calls.{Outcome, offered, struck}
 use Rattle.book.specs.Ticks.{Ticking, ticked}
@@ -22,7 +22,7 @@ abbrev pub done_by : Result (Unit {0}) BookFault → Result Response BookFault
 done_by (Ok u) = Ok Done
 done_by (Err fault) = Err fault
 
-abbrev pub served_by : Result Share BookFault → Result Response BookFault
+abbrev pub served_by : Result TickServed BookFault → Result Response BookFault
 served_by (Ok s) = Ok (Served s)
 served_by (Err fault) = Err fault
 
