@@ -131,14 +131,23 @@ module _ (b : View) (j : Job) (lawful : Lawful b) (ok : Admissible b j) where
       found.1 ((theory.enough.up_to_top horizon (demands b.now (with_job j b.jobs)) b.top counted_sound).1 can)
 
 -- a fault of the first checks is no overload
+field_other : (field : BookField) → IsOverload (Err (Field field)) → ⊥
+field_other field is = let told = is.3 in cc
+
+ticket_other : (ticket : ℕ) → IsOverload (Err (TicketOpen ticket)) → ⊥
+ticket_other ticket is = let told = is.3 in cc
+
+full_other : (places : ℕ) → IsOverload (Err (Full places)) → ⊥
+full_other places is = let told = is.3 in cc
+
 other_fault : (o : Option BookFault) (f g : BookFault) → o ≡ Some g → (IsOverload (Err g) → ⊥) → o ≡ Some f → IsOverload (Err f) → ⊥
 other_fault o f g is other e = let same : g ≡ f = cc in subst (λ x. IsOverload (Err x) → ⊥) same other
 
 place_other : (jobs : List Job) (j : Job) (f : BookFault) → place_fault jobs j ≡ Some f → IsOverload (Err f) → ⊥
 place_other jobs j f e = elim (cases_Bool (is_open j.ticket jobs)) [
-  | inl held ↦ other_fault (place_fault jobs j) f (TicketOpen j.ticket) (rw held refl) (λ no. no) e
+  | inl held ↦ other_fault (place_fault jobs j) f (TicketOpen j.ticket) (rw held refl) (ticket_other j.ticket) e
   | inr closed ↦ elim (cases_Bool (nat_le 64 (length jobs))) [
-    | inl full ↦ other_fault (place_fault jobs j) f (Full 64) (rw (closed, full) refl) (λ no. no) e
+    | inl full ↦ other_fault (place_fault jobs j) f (Full 64) (rw (closed, full) refl) (full_other 64) e
     | inr room ↦ absurd (let none : place_fault jobs j ≡ None = rw (closed, room) refl in cc)
   ]
 ]
@@ -148,7 +157,7 @@ early_other b j f = go (field_fault b.now j)
   where
     go : (o : Option BookField) → option_or (option_map Field o) (place_fault b.jobs j) ≡ Some f → IsOverload (Err f) → ⊥
     go None e = place_other b.jobs j f e
-    go (Some field) e = other_fault (Some (Field field)) f (Field field) refl (λ no. no) e
+    go (Some field) e = other_fault (Some (Field field)) f (Field field) refl (field_other field) e
 
 -- the fault of an interval names it, and no other
 named_by : (b : View) (x y : ℕ) → FirstOverload horizon (demands b.now b.jobs) b.top x y → NamesFirst b (Err (overload_at b (x, y)))
@@ -180,15 +189,20 @@ only_offered b j lawful = go (early_fault b j) refl (overload_in (counted b j)) 
     go (Some f) e r s = record {
       accepted = (λ no. absurd (cc), λ can. absurd (cc));
       refused = (λ is. absurd (early_other b j f e is), λ cannot. absurd (cc));
-      named = λ x y w same. absurd (early_other b j f e (subst IsOverload (sym same) tt));
+      named = λ x y w same. absurd (early_other b j f e (b.now + x, b.now + y, w, same));
     }
     go None e (Some xy) s =
         let cannot = counted_not_doable b j lawful (admissible b j e) xy.0 xy.1 s in
         let first = counted_first b j lawful (admissible b j e) xy.0 xy.1 s in
-        record { accepted = (λ no. absurd (cc), λ can. absurd (cannot can.1)); refused = (λ _. (e, cannot), λ _. tt); named = named_by (counted b j) xy.0 xy.1 first }
+        let ds = demands b.now (with_job j b.jobs) in
+        record {
+          accepted = (λ no. absurd (cc), λ can. absurd (cannot can.1));
+          refused = (λ _. (e, cannot), λ _. (b.now + xy.0, b.now + xy.1, work ds xy.0 xy.1, refl));
+          named = named_by (counted b j) xy.0 xy.1 first;
+        }
     go None e None s =
         let can = counted_doable b j lawful (admissible b j e) s in
-        record { accepted = (λ _. (e, can), λ _. refl); refused = (λ no. absurd no, λ cannot. absurd (cannot.1 can)); named = λ x y w same. absurd (cc) }
+        record { accepted = (λ _. (e, can), λ _. refl); refused = (λ is. let told = is.3 in absurd (cc), λ cannot. absurd (cannot.1 can)); named = λ x y w same. absurd (cc) }
 
 pub only_overload : (b : View) (j : Job) (answer : Result (Unit {0}) BookFault) → Lawful b → answer ≡ (offered b j).answer → OnlyOverload b j answer
 only_overload b j answer lawful e = subst (OnlyOverload b j) (sym e) (only_offered b j lawful)

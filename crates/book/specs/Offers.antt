@@ -1,32 +1,27 @@
 -- What an answer to an offer tells of the open work and the offered work.
-use Rattle.std.specs.Prelude.{◌≡◌, ℕ, ◌+◌, ◌<◌, ◌≤◌, ◌↔◌, None, Ok, Err, Result, IsOk}
+use Rattle.std.specs.Prelude.{◌≡◌, ℕ, ◌+◌, ◌<◌, ◌≤◌, ◌↔◌, None, Err, Result, IsOk}
 use Rattle.schedule.specs.InForce.{horizon}
 use Rattle.schedule.specs.Overload.{FirstOverload}
 use Rattle.schedule.specs.Sharing.{Does}
 use Rattle.schedule.specs.Work.{work}
 use Rattle.book.specs.declared.job.Job.{Job}
 use Rattle.book.specs.declared.fault.BookFault.{BookFault}
-use Rattle.book.specs.declared.fault.BookFault.TheVariants.{Read, Field, TicketOpen, Full, Overload, NotOpen, Short, LastTick, Image}
+use Rattle.book.specs.declared.fault.BookFault.TheVariants.{Overload}
 use Rattle.book.specs.Demands.{demands}
 use Rattle.book.specs.Book.{View}
 use Rattle.book.specs.Calls.{early_fault, counted}
 
+-- settings up to the top
+abbrev pub UpTo : ℕ → (ℕ → ℕ) → Type 0
+UpTo top s = (t : ℕ) → t < horizon → s t ≤ top
+
 -- some list of settings up to the top does the work of the open jobs
 abbrev pub IsDoable : View → Type 0
-IsDoable b = (s : ℕ → ℕ) × ((t : ℕ) → t < horizon → s t ≤ b.top) × Does horizon (demands b.now b.jobs) s
+IsDoable b = (s : ℕ → ℕ) × UpTo b.top s × Does horizon (demands b.now b.jobs) s
 
 -- whether an answer is the refusal for overload
 abbrev pub IsOverload : Result (Unit {0}) BookFault → Type 0
-IsOverload (Ok u) = ⊥
-IsOverload (Err (Read e)) = ⊥
-IsOverload (Err (Field f)) = ⊥
-IsOverload (Err (TicketOpen ticket)) = ⊥
-IsOverload (Err (Full places)) = ⊥
-IsOverload (Err (Overload start end work)) = Unit {0}
-IsOverload (Err (NotOpen ticket)) = ⊥
-IsOverload (Err (Short needed)) = ⊥
-IsOverload (Err (LastTick now)) = ⊥
-IsOverload (Err (Image number)) = ⊥
+IsOverload answer = (start : ℕ) × (end : ℕ) × (work : ℕ) × (answer ≡ Err (Overload start end work))
 
 -- a refusal for overload names the first overloaded interval of a book, and the work inside
 abbrev pub NamesFirst : View → Result (Unit {0}) BookFault → Type 0
