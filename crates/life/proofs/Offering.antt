@@ -17,7 +17,7 @@ use Rattle.book.specs.Calls.{Outcome, early_fault, overload_in, overload_at, cou
 use Rattle.book.specs.Offers.{IsDoable}
 use Rattle.book.proofs.Offering.{Admissible, admissible, counted_open, counted_lawful, counted_doable, counted_not_doable}
 use Rattle.life.specs.Events.{offer, done_or, event}
-use Rattle.life.specs.Tally.{Row, Tally, open_jobs, row_of, note_answer}
+use Rattle.life.specs.Tally.{Row, Tally, open_jobs, book_of, row_of, note_answer}
 use Rattle.life.specs.Promises.{CanDo, Admits}
 use Rattle.life.proofs.Rows.{newest_new, open_new}
 use Rattle.life.proofs.Agreeing.{Agrees, Kept}
@@ -33,7 +33,7 @@ module _ (t : Tally) (b : View) (j : Job) (agrees : Agrees t b) where
   with_offered : IsPermutation (j ∷ open_jobs t.rows) (with_job j b.jobs)
   with_offered = IsPermutation-trans _ _ _ (IsPermutation-cons j (open_jobs t.rows) b.jobs agrees.same) (IsPermutation-insert b.jobs (position_or_len (is_before j) b.jobs) j)
 
-  same_early : early_fault (record { now = t.now; top = t.top; jobs = open_jobs t.rows }) j ≡ early_fault b j
+  same_early : early_fault (book_of t) j ≡ early_fault b j
   same_early = ap (λ now. early_fault (record { now = now; top = t.top; jobs = open_jobs t.rows }) j) agrees.now ∙ early_any_order b.now b.top (open_jobs t.rows) b.jobs j agrees.same
 
   module _ (ok : Admissible b j) where

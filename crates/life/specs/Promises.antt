@@ -9,17 +9,13 @@ use Rattle.book.specs.declared.job.Job.{Job}
 use Rattle.book.specs.declared.fault.BookFault.TheVariants.{Overload}
 use Rattle.book.specs.declared.tick.Entry.{Entry}
 use Rattle.book.specs.declared.tick.Served.{Served}
-use Rattle.book.specs.Demands.{demand}
-use Rattle.book.specs.Book.{View}
+use Rattle.book.specs.Book.{View, with_jobs}
 use Rattle.book.specs.Calls.{early_fault}
+use Rattle.book.specs.Offers.{UpTo, IsDoable}
 use Rattle.book.specs.Settings.{listing}
 use Rattle.life.specs.Events.{Call, offer, strike, tick, settings, blocks, bill, save, Answer, done, served, refused, Event, book_after}
-use Rattle.life.specs.Tally.{Row, Tally, is_open, open_jobs, owed, last_row, noted}
+use Rattle.life.specs.Tally.{Row, Tally, is_open, open_jobs, book_of, owed, last_row, noted}
 use Rattle.life.specs.Life.{Life, begun, tally_of}
-
--- settings up to the top
-abbrev pub UpTo : ℕ → (ℕ → ℕ) → Type 0
-UpTo top s = (t : ℕ) → t < horizon → s t ≤ top
 
 -- the settings in force: what the question settings writes on the book, given room
 abbrev pub in_force : View → ℕ → ℕ
@@ -58,7 +54,7 @@ pub record Serves (t : Tally) (b : View) (s : Served) (es : List Entry) : Type 0
 
 -- some settings up to the top do the tally's open work and the offered work in their windows
 abbrev pub CanDo : Tally → Job → Type 0
-CanDo t j = (s : ℕ → ℕ) × UpTo t.top s × Does horizon (demand t.now j ∷ owed t) s
+CanDo t j = IsDoable (with_jobs (j ∷ open_jobs t.rows) (book_of t))
 
 -- the refusal for overload
 abbrev pub IsOverload : Answer → Type 0
@@ -67,7 +63,7 @@ IsOverload answer = (start : ℕ) × (end : ℕ) × (work : ℕ) × (answer ≡ 
 -- an offer that passes its checks of fields, of its ticket and of the places is refused for overload where no settings can do the work, and accepted otherwise
 abbrev pub Admits : Tally → Job → Answer → Type 0
 Admits t j answer =
-    early_fault (record { now = t.now; top = t.top; jobs = open_jobs t.rows }) j ≡ None →
+    early_fault (book_of t) j ≡ None →
     ((answer ≡ done) × CanDo t j) ⊎ (IsOverload answer × (CanDo t j → ⊥))
 
 -- what is promised of an answer to a call

@@ -4,6 +4,7 @@ use Rattle.schedule.specs.Demands.{Demand}
 use Rattle.book.specs.declared.job.Job.{Job}
 use Rattle.book.specs.declared.tick.Entry.{Entry}
 use Rattle.book.specs.Demands.{demands}
+use Rattle.book.specs.Book.{View}
 use Rattle.book.specs.Images.{book_in}
 use Rattle.life.specs.Events.{Call, offer, strike, tick, settings, blocks, bill, save, Answer, done, served, number, refused, Event}
 
@@ -32,6 +33,10 @@ job_left r = record { ticket = r.ticket; arrival = r.arrival; deadline = r.deadl
 
 abbrev pub open_jobs : List Row → List Job
 open_jobs rows = map job_left (filter is_open rows)
+
+-- the tally as a book, with the open jobs in the order of the rows
+abbrev pub book_of : Tally → View
+book_of t = record { now = t.now; top = t.top; jobs = open_jobs t.rows }
 
 -- the open work, seen from now
 abbrev pub owed : Tally → List Demand
