@@ -5,15 +5,14 @@ use Rattle.std.proofs.lemmas.List.{take_at}
 use Rattle.schedule.proofs.Theory.{theory}
 use Rattle.book.specs.declared.fault.BookFault.{BookFault}
 use Rattle.book.specs.declared.tick.Entry.{Entry}
-use Rattle.book.specs.declared.tick.Served.{Served}
 use Rattle.book.specs.Book.{View, last_tick}
 use Rattle.book.specs.Settings.{settings_of}
 use Rattle.book.specs.Ticks.{Ticking, entries, shares_of, after_tick, tick_fault, ticking}
 use Rattle.book.specs.Ticks as ticks
 use Rattle.book.proofs.Ticking.{gives_setting, lawful_after}
-use Rattle.life.specs.Events.{tick, served_or, written, served}
+use Rattle.life.specs.Events.{tick, served_or, written}
 use Rattle.life.specs.Tally.{Tally, with_entries, note_answer}
-use Rattle.life.specs.Promises.{Serves}
+use Rattle.life.specs.Promises.{Serves, TickAnswer}
 use Rattle.life.proofs.Feeding.{Fed, fed}
 use Rattle.life.proofs.Agreeing.{Agrees, Kept}
 use Rattle.life.proofs.Standing.{in_force_same}
@@ -55,15 +54,13 @@ module _ (t : Tally) (b : View) (list : List Entry) (agrees : Agrees t b) where
 
   -- an answer that is as promised, and a book that agrees with the tally then
   record Answered (x : Ticking) : Type 0 where
-    serving : (s : Served) → served_or x.answer ≡ served s → Serves t b s (written (served_or x.answer) x.list)
+    serving : TickAnswer t b (served_or x.answer) (written (served_or x.answer) x.list)
     agrees_after : Agrees (note_answer t (record { call = tick list; answer = served_or x.answer; entries = written (served_or x.answer) x.list }) (served_or x.answer)) x.book
 
   answered : (o : Option BookFault) → tick_fault b list ≡ o → Answered (ticking o b list)
-  answered (Some f) e = record { serving = λ s is. absurd (cc); agrees_after = agrees }
+  answered (Some f) e = record { serving = tt; agrees_after = agrees }
   answered None e = record {
-    serving = λ s is.
-        let same : record { setting = settings_of b 0; count = length es } ≡ s = cc in
-        subst (λ xs. Serves t b s xs) (sym first_places) (subst (λ x. Serves t b x es) same serves);
+    serving = subst (Serves t b (record { setting = settings_of b 0; count = length es })) (sym first_places) serves;
     agrees_after = subst (λ xs. Agrees (record { now = t.now + 1; top = t.top; rows = with_entries xs t.rows }) (after_tick b)) (sym first_places) (agrees_later (not_last b list e));
   }
 

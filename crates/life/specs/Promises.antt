@@ -13,7 +13,7 @@ use Rattle.book.specs.Book.{View, with_jobs}
 use Rattle.book.specs.Calls.{early_fault}
 use Rattle.book.specs.Offers.{UpTo, IsDoable}
 use Rattle.book.specs.Settings.{listing}
-use Rattle.life.specs.Events.{Call, offer, strike, tick, settings, blocks, bill, save, Answer, done, served, refused, Event, book_after}
+use Rattle.life.specs.Events.{Call, offer, strike, tick, settings, blocks, bill, save, Answer, done, served, number, refused, Event, book_after}
 use Rattle.life.specs.Tally.{Row, Tally, is_open, open_jobs, book_of, owed, last_row, noted}
 use Rattle.life.specs.Life.{Life, begun, tally_of}
 
@@ -66,11 +66,18 @@ Admits t j answer =
     early_fault (book_of t) j ≡ None →
     ((answer ≡ done) × CanDo t j) ⊎ (IsOverload answer × (CanDo t j → ⊥))
 
+-- a tick is refused, or serves
+abbrev pub TickAnswer : Tally → View → Answer → List Entry → Type 0
+TickAnswer t b done es = ⊥
+TickAnswer t b (served s) es = Serves t b s es
+TickAnswer t b (number n) es = ⊥
+TickAnswer t b (refused fault) es = Unit {0}
+
 -- what is promised of an answer to a call
 abbrev pub Answers : Tally → View → Call → Answer → List Entry → Type 0
 Answers t b (offer j) answer es = Admits t j answer
 Answers t b (strike k) answer es = Unit {0}
-Answers t b (tick list) answer es = (s : Served) → answer ≡ served s → Serves t b s es
+Answers t b (tick list) answer es = TickAnswer t b answer es
 Answers t b (settings list) answer es = Unit {0}
 Answers t b (blocks list) answer es = Unit {0}
 Answers t b (bill draws) answer es = Unit {0}
