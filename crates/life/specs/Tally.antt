@@ -8,7 +8,7 @@ use Rattle.book.specs.Book.{View}
 use Rattle.book.specs.Images.{book_in}
 use Rattle.life.specs.Events.{Call, offer, strike, tick, settings, blocks, bill, save, Answer, done, served, number, refused, Event}
 
--- an accepted offer: what it asked for, the units that it has had, and whether it was struck
+-- an accepted offer, or a job of a loaded image: what was asked for, the units that it has had, and whether it was struck
 pub record Row : Type 0 where
   pub ticket : ℕ
   pub arrival : ℕ
@@ -17,7 +17,7 @@ pub record Row : Type 0 where
   pub had : ℕ
   pub struck : Bool
 
--- now, the top and the rows, the last one first
+-- now, the top and the rows, the last one first; those of a load in the order of the image (their tickets differ)
 pub record Tally : Type 0 where
   pub now : ℕ
   pub top : ℕ

@@ -23,20 +23,25 @@ use book::{Book, BookFault, Entry, Job, Served};
 /// What a console asks of a book.
 #[derive(Clone, Copy, PartialEq, Eq, Debug)]
 pub enum Request {
+    /// To add the job to the open ones.
     Offer(Job),
+    /// To close the open job with the ticket.
     Strike { ticket: u16 },
+    /// To serve the tick at now.
     Tick,
 }
 
 /// What it is answered, where it is not refused.
 #[derive(Clone, Copy, PartialEq, Eq, Debug)]
 pub enum Response {
+    /// An offer is accepted, or a strike has closed its job.
     Done,
+    /// The setting that a tick served, and how many entries it wrote.
     Served(Served),
 }
 
 impl Request {
-    // Applies it to the book. What follows for whole lives, `handle` says.
+    // Makes the request of the book. The law is proved of `handle` from this contract.
     fn apply(&self, book: &mut Book, list: &mut [Entry]) -> Result<Response, BookFault>
         ensures answer { result ≡ (handled book.old self.now list.old).answer }
         ensures after { book.new ≡ (handled book.old self.now list.old).book }
@@ -51,11 +56,12 @@ impl Request {
     }
 }
 
-/// Makes the request of the book. The list is for the entries of a tick; the other requests leave it.
+/// Makes the request of the book. The list is for the entries of a tick; the other requests leave it. A tick needs a list of 64 places.
 ///
 /// Refuses what the book refuses.
 ///
 /// Every life that ends in the book as it was ends, with this call, in the book as it is then, and keeps the promises.
+/// The promises are `Keeps` (specs/Promises.antt).
 pub fn handle(book: &mut Book, request: &Request, list: &mut [Entry]) -> Result<Response, BookFault>
     ensures answer { result ≡ (handled book.old request.now list.old).answer }
     ensures after { book.new ≡ (handled book.old request.now list.old).book }
