@@ -1,11 +1,10 @@
 -- A record that is there has an entry, and no fault ends the run but a cut record.
-use Rattle.std.specs.Prelude.{◌≡◌, ℕ, Bool, true, false, if◌then◌else◌, List, length, Some, None, Ok, Err, Option, Result, ◌==◌, nat_lt, nat_le, codes}
+use Rattle.std.specs.Prelude.{◌≡◌, ℕ, Bool, true, false, if◌then◌else◌, List, length, Some, None, Ok, Err, Option, Result, ◌==◌, nat_lt, nat_le}
 use Rattle.std.proofs.Common.{refl}
 use Rattle.std.specs.Option.{option_map, option_or}
 use Rattle.layout.specs.declared.fault.ReadFault.{ReadFault}
 use Rattle.layout.specs.declared.fault.ReadFault.TheVariants.{Cut, UnknownKind, Forbidden}
-use Rattle.layout.specs.Content.{Content, offer, strike, tick}
-use Rattle.layout.specs.Label.{shown_label}
+use Rattle.layout.specs.Content.{Content}
 use Rattle.layout.specs.Reading.{one}
 use Rattle.book.specs.declared.fault.BookFault.{BookFault}
 use Rattle.book.specs.declared.fault.BookFault.TheVariants.{Field, TicketOpen, Full, NotOpen, Short, LastTick}
@@ -13,11 +12,15 @@ use Rattle.book.specs.declared.fault.BookField.{BookField}
 use Rattle.book.specs.declared.job.Job.{Job}
 use Rattle.book.specs.declared.tick.Entry.{Entry as Share}
 use Rattle.book.specs.Book.{View, last_tick, with_jobs}
-use Rattle.book.specs.Calls.{outcome, field_fault, place_fault, early_fault, overload_at, overload_in, overload_fault, counted, offer_fault, strike_fault, offered, struck}
+use Rattle.book.specs.Calls.{outcome, field_fault, place_fault, early_fault, overload_at, overload_in, overload_fault, counted, offer_fault, strike_fault}
 use Rattle.book.specs.Jobs.{is_open, without}
-use Rattle.book.specs.Ticks.{ticking, tick_fault, ticked}
+use Rattle.book.specs.Ticks.{ticking, tick_fault}
+use Rattle.life.specs.declared.Request.{Request}
+use Rattle.life.specs.declared.Request.TheVariants.{Offer, Strike, Tick}
+use Rattle.life.specs.declared.Response.{Response}
+use Rattle.life.specs.Requests.{done_by, served_by, handled}
 use Rattle.transcript.specs.Refusals.{ends_book}
-use Rattle.transcript.specs.Entries.{Entry, taken, closed, entry_unless, tick_entry, passed_on, no_entries, content_step, read_step, told_entry, over_by}
+use Rattle.transcript.specs.Entries.{entry_unless, request_by, no_entries, content_step, read_step, told_entry, over_by}
 
 -- a fault, if there is one, does not end the run
 abbrev Quiet : Option BookFault → Type 0
@@ -59,18 +62,30 @@ quiet_tick b list =
     quiet_if (nat_lt (length list) 64) (Some (Short 64)) (if b.now == last_tick then Some (LastTick b.now) else None) refl
     (quiet_if (b.now == last_tick) (Some (LastTick b.now)) None refl tt)
 
-call_goes_on : (o : Option BookFault) (before after : View) (e : Entry) → Quiet o → over_by (entry_unless (outcome o before after).answer e) ≡ false
-call_goes_on None before after e q = refl
-call_goes_on (Some f) before after e q = q
+-- an answer that does not end the run
+abbrev Going : Result Response BookFault → Type 0
+Going (Ok response) = Unit {0}
+Going (Err f) = ends_book f ≡ false
 
-tick_goes_on : (o : Option BookFault) (b : View) (list : List Share) → Quiet o → over_by (passed_on (tick_entry b (ticking o b list).answer)) ≡ false
-tick_goes_on None b list q = refl
-tick_goes_on (Some f) b list q = q
+call_going : (o : Option BookFault) (before after : View) → Quiet o → Going (done_by (outcome o before after).answer)
+call_going None before after q = tt
+call_going (Some f) before after q = q
+
+tick_going : (o : Option BookFault) (b : View) (list : List Share) → Quiet o → Going (served_by (ticking o b list).answer)
+tick_going None b list q = tt
+tick_going (Some f) b list q = q
+
+handled_going : (b : View) (r : Request) (list : List Share) → Going (handled b r list).answer
+handled_going b (Offer j) list = call_going (offer_fault b j) b (counted b j) (quiet_offer b j)
+handled_going b (Strike t) list = call_going (strike_fault b t) b (with_jobs (without t b.jobs) b) (quiet_strike b t)
+handled_going b Tick list = tick_going (tick_fault b list) b list (quiet_tick b list)
+
+answer_goes_on : (b : View) (c : Content) (answer : Result Response BookFault) → Going answer → over_by (entry_unless b c answer) ≡ false
+answer_goes_on b c (Ok response) g = refl
+answer_goes_on b c (Err f) g = g
 
 content_goes_on : (b : View) (c : Content) → over_by (content_step b c).answer ≡ false
-content_goes_on b (offer t a d w l) = let j : Job = record { ticket = t; arrival = a; deadline = d; work = w } in call_goes_on (offer_fault b j) b (counted b j) (taken t (shown_label l (codes "house"))) (quiet_offer b j)
-content_goes_on b (strike t) = call_goes_on (strike_fault b t) b (with_jobs (without t b.jobs) b) (closed t) (quiet_strike b t)
-content_goes_on b tick = tick_goes_on (tick_fault b no_entries) b no_entries (quiet_tick b no_entries)
+content_goes_on b c = answer_goes_on b c (handled b (request_by c) no_entries).answer (handled_going b (request_by c) no_entries)
 
 -- a record that is not cut does not end the run
 pub goes_on : (b : View) (r : Result Content ReadFault) → ((at : ℕ) → r ≡ Err (Cut at) → ⊥) → over_by (read_step b (one r)).answer ≡ false
@@ -79,20 +94,12 @@ goes_on b (Err (Cut at)) h = absurd (h at refl)
 goes_on b (Err (UnknownKind at)) h = refl
 goes_on b (Err (Forbidden at)) h = refl
 
-call_said : {X : Type 0} (place : ℕ) (r : Result X BookFault) (e : Entry) → told_entry place (entry_unless r e) ≡ None → ⊥
-call_said place (Ok x) e n = cc
-call_said place (Err f) e n = cc
+-- an answered record has an entry
+answer_said : (b : View) (place : ℕ) (c : Content) (answer : Result Response BookFault) → told_entry place (entry_unless b c answer) ≡ None → ⊥
+answer_said b place c (Ok response) n = cc
+answer_said b place c (Err f) n = cc
 
-tick_said : (place : ℕ) (r : Result Entry BookFault) → told_entry place (passed_on r) ≡ None → ⊥
-tick_said place (Ok e) n = cc
-tick_said place (Err f) n = cc
-
-content_said : (b : View) (place : ℕ) (c : Content) → told_entry place (content_step b c).answer ≡ None → ⊥
-content_said b place (offer t a d w l) n = call_said place (offered b (record { ticket = t; arrival = a; deadline = d; work = w })).answer (taken t (shown_label l (codes "house"))) n
-content_said b place (strike t) n = call_said place (struck b t).answer (closed t) n
-content_said b place tick n = tick_said place (tick_entry b (ticked b no_entries).answer) n
-
--- each record has an entry
+-- so each record has one
 pub said : (b : View) (place : ℕ) (r : Result Content ReadFault) → told_entry place (read_step b (one r)).answer ≡ None → ⊥
-said b place (Ok c) n = content_said b place c n
+said b place (Ok c) n = answer_said b place c (handled b (request_by c) no_entries).answer n
 said b place (Err f) n = cc

@@ -7,12 +7,13 @@ use Rattle.layout.specs.Reading.{read_at}
 use Rattle.book.specs.declared.fault.BookFault.{BookFault}
 use Rattle.book.specs.declared.fault.BookFault.TheVariants.{Read}
 use Rattle.book.specs.declared.tick.Entry.{Entry as Share}
-use Rattle.book.specs.declared.tick.Served.{Served}
 use Rattle.book.specs.Book.{View, empty_book}
-use Rattle.book.specs.Calls.{offered, struck}
-use Rattle.book.specs.Ticks.{ticked, entries, shares_of}
+use Rattle.book.specs.Ticks.{entries, shares_of}
 use Rattle.life.specs.declared.Request.{Request}
 use Rattle.life.specs.declared.Request.TheVariants.{Offer, Strike, Tick}
+use Rattle.life.specs.declared.Response.{Response}
+use Rattle.life.specs.declared.Response.TheVariants.{Done, Served}
+use Rattle.life.specs.Requests.{handled}
 use Rattle.transcript.specs.declared.fault.BenchFault.{BenchFault}
 use Rattle.transcript.specs.declared.fault.BenchFault.TheVariants.{Book}
 use Rattle.transcript.specs.declared.line.Line.{Line}
@@ -43,24 +44,9 @@ pub record Step : Type 0 where
   pub answer : Result (Option Entry) BenchFault
   pub book : View
 
--- an entry, unless the book refuses the call
-abbrev pub entry_unless : {X : Type 0} → Result X BookFault → Entry → Result (Option Entry) BenchFault
-entry_unless (Ok x) e = Ok (Some e)
-entry_unless (Err f) e = Err (Book f)
-
 -- the list that a tick writes into
 abbrev pub no_entries : List Share
 no_entries = replicate 64 (record { ticket = 0; units = 0 })
-
--- the entry of a tick that a book serves
-abbrev pub tick_entry : View → Result Served BookFault → Result Entry BookFault
-tick_entry b (Ok s) = Ok (served b.now s.setting (entries (shares_of b)))
-tick_entry b (Err f) = Err f
-
--- an answer of the book, as the bench passes it on
-abbrev pub passed_on : Result Entry BookFault → Result (Option Entry) BenchFault
-passed_on (Ok e) = Ok (Some e)
-passed_on (Err f) = Err (Book f)
 
 -- what a record asks of the book
 abbrev pub request_by : Content → Request
@@ -68,13 +54,27 @@ request_by (offer t a d w l) = Offer (record { ticket = t; arrival = a; deadline
 request_by (strike t) = Strike t
 request_by tick = Tick
 
--- a record worked with a book
+-- the setting of a tick's response, which is always Served
+abbrev pub setting_of : Response → ℕ
+setting_of Done = 0
+setting_of (Served s) = s.setting
+
+-- the entry of a record that the book does not refuse, by the response, where b is the book before
+abbrev pub entry_with : View → Content → Response → Entry
+entry_with b (offer t a d w l) response = taken t (shown_label l (codes "house"))
+entry_with b (strike t) response = closed t
+entry_with b tick response = served b.now (setting_of response) (entries (shares_of b))
+
+-- the entry, unless the book refuses the record
+abbrev pub entry_unless : View → Content → Result Response BookFault → Result (Option Entry) BenchFault
+entry_unless b c (Ok response) = Ok (Some (entry_with b c response))
+entry_unless b c (Err f) = Err (Book f)
+
+-- a record worked with a book, as its request is handled
 abbrev pub content_step : View → Content → Step
-content_step b (offer t a d w l) =
-    let call = offered b (record { ticket = t; arrival = a; deadline = d; work = w }) in
-    record { answer = entry_unless call.answer (taken t (shown_label l (codes "house"))); book = call.book }
-content_step b (strike t) = record { answer = entry_unless (struck b t).answer (closed t); book = (struck b t).book }
-content_step b tick = record { answer = passed_on (tick_entry b (ticked b no_entries).answer); book = (ticked b no_entries).book }
+content_step b c =
+    let h = handled b (request_by c) no_entries in
+    record { answer = entry_unless b c h.answer; book = h.book }
 
 -- a record that was read, or none at the end of the input, with a book
 abbrev pub read_step : View → Result (Option Content) ReadFault → Step
