@@ -16,7 +16,7 @@ use planner::NO_DEMAND;
 pub const SETTINGS: usize = 256;
 
 // The settings in force for open jobs.
-pub(super) fn settings_in_force(jobs: &[Job], now: u64) -> [u32; 256]
+pub(super) fn settings_in_force(jobs: &[Job], now: u64) -> [u32; SETTINGS]
     requires few { length jobs.now ≤ 64 }
     requires in_order { InOrder jobs.now }
     requires open { All (OpenAt now) jobs.now }

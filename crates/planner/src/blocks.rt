@@ -4,7 +4,7 @@ ghost use Rattle.schedule.specs.InForce.{horizon};
 ghost use Rattle.schedule.specs.Theory.{Blocked};
 ghost use Rattle.planner.specs.Blocks.{open_demands, critical_blocks};
 
-use super::demands::Demands;
+use super::demands::{Demands, MOST_DEMANDS};
 use super::rounds::Rounds;
 use std::marker::Model;
 
@@ -29,7 +29,7 @@ const NO_BLOCK: Block = Block {
 /// Critical blocks, at most 64, in the order of the rounds.
 #[derive(Drop)]
 pub struct Blocks {
-    places: [Block; 64],
+    places: [Block; MOST_DEMANDS],
     // How many there are: they stand in the first places, and what the others hold means nothing.
     count: usize,
 }
@@ -51,7 +51,7 @@ impl Blocks {
         ensures { result ≡ [] }
     {
         Blocks {
-            places: [NO_BLOCK; 64],
+            places: [NO_BLOCK; MOST_DEMANDS],
             count: 0,
         }
     }

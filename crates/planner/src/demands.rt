@@ -6,6 +6,12 @@ ghost use Rattle.planner.specs.Plannable.{Plannable};
 
 use std::marker::Model;
 
+/// How many ticks are planned, from now on.
+pub const TICKS: usize = 256;
+
+/// How many demands can be planned for.
+pub const MOST_DEMANDS: usize = 64;
+
 /// An open job seen from now: its window [from, to) in ticks from now, and its work left.
 #[derive(Clone, Copy)]
 pub struct Demand {
@@ -55,7 +61,8 @@ impl<'a> Model for Demands<'a> {
 fn has_windows(list: &[Demand]) -> bool
     ensures { IsTrue result ↔ Sound horizon list.now }
 {
-    list.iter().all(|demand| demand.units == 0 || demand.from < demand.to && demand.to <= 256)
+    list.iter().all(|demand| demand.units == 0
+        || demand.from < demand.to && usize::from(demand.to) <= TICKS)
 }
 
 // Whether the demands come in order of deadline.
@@ -71,7 +78,7 @@ impl<'a> Demands<'a> {
         ensures some { IsSome result ↔ Plannable list.now }
         ensures list { IfSome result (λ demands. demands ≡ list.now) }
     {
-        if list.len() <= 64 && has_windows(list) && is_sorted(list) {
+        if list.len() <= MOST_DEMANDS && has_windows(list) && is_sorted(list) {
             Some(Demands { list })
         } else {
             None

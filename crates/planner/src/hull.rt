@@ -2,6 +2,7 @@
 ghost use Rattle.std.specs.Prelude.{◌≡◌, ◌<◌, ◌≤◌};
 ghost use Rattle.schedule.specs.Placing.{place_at, spot};
 
+use super::demands::TICKS;
 use super::plan::Plan;
 use queue::{LoadedTick, TickQueue};
 
@@ -23,7 +24,7 @@ impl<'a> Hull<'a> {
 
     // The hull of a window in a plan, with its queue in these slots.
     pub(super) fn new(
-        slots: &'a mut [LoadedTick; 256],
+        slots: &'a mut [LoadedTick; TICKS],
         plan: &Plan,
         from: usize,
         to: usize,

@@ -47,7 +47,7 @@ mod search;
 mod ticks;
 
 pub use blocks::{Block, Blocks, critical_blocks};
-pub use demands::{Demand, Demands, NO_DEMAND};
+pub use demands::{Demand, Demands, MOST_DEMANDS, NO_DEMAND, TICKS};
 use hull::Hull;
 use plan::Plan;
 use queue::LoadedTick;
@@ -63,7 +63,7 @@ fn fill(plan: &mut Plan, demand: &Demand)
     if demand.units == 0 {
         return;
     }
-    let mut slots = [LoadedTick { units: 0, tick: 0 }; 256];
+    let mut slots = [LoadedTick { units: 0, tick: 0 }; TICKS];
     let mut hull = Hull::new(
         &mut slots,
         plan,
@@ -76,7 +76,7 @@ fn fill(plan: &mut Plan, demand: &Demand)
 }
 
 /// The settings in force for these demands, one for each of 256 ticks.
-pub fn settings(demands: &Demands) -> [u32; 256]
+pub fn settings(demands: &Demands) -> [u32; TICKS]
     ensures settings { Same horizon (listed result) (settings_in_force demands.now) }
     ensures in_force { InForce horizon demands.now (listed result) }
 {

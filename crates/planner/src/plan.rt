@@ -2,12 +2,14 @@
 ghost use Rattle.std.specs.Prelude.{◌≡◌, ℕ, ◌+◌, ◌-◌, ◌^◌, ◌<◌, ◌≤◌, length, slice_index};
 ghost use Rattle.schedule.specs.Placing.{empty, low_end, place_at};
 
+use super::demands::TICKS;
+
 // The units that are placed in each tick so far, and the slack at each tick: by how much the units placed from there on exceed
 // those of the windows that start there or later.
 #[derive(Drop)]
 pub(super) struct Plan {
-    pub(super) loads: [u32; 256],
-    slack: [u32; 256],
+    pub(super) loads: [u32; TICKS],
+    slack: [u32; TICKS],
 }
 
 // One slack more at each place.
@@ -38,8 +40,8 @@ impl Plan {
         ensures { state_of result ≡ empty }
     {
         Plan {
-            loads: [0; 256],
-            slack: [0; 256],
+            loads: [0; TICKS],
+            slack: [0; TICKS],
         }
     }
 

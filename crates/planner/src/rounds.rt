@@ -12,7 +12,7 @@ ghost use Rattle.planner.specs.Plannable.{Plannable};
 ghost use Rattle.planner.specs.Blocks.{critical_blocks};
 
 use super::blocks::Block;
-use super::demands::{Demand, Demands, NO_DEMAND};
+use super::demands::{Demand, Demands, MOST_DEMANDS, NO_DEMAND, TICKS};
 use super::pair::Pair;
 use super::search::best_pair;
 use super::ticks::{compressed_times, first_tick, past_tick, take_ticks, taken_ticks};
@@ -20,7 +20,7 @@ use std::marker::Model;
 
 impl Demand {
     // The demand as seen in compressed time.
-    fn seen(&self, times: &[u16; 257]) -> Demand
+    fn seen(&self, times: &[u16; TICKS + 1]) -> Demand
         requires { (self.now.from ≤ 256) × (self.now.to ≤ 256) }
         ensures { result ≡ seen (listed times.now) self.now }
     {
@@ -33,12 +33,12 @@ impl Demand {
 }
 
 // The demands in compressed time, in the first places.
-fn windows(demands: &[Demand], times: &[u16; 257]) -> [Demand; 64]
+fn windows(demands: &[Demand], times: &[u16; TICKS + 1]) -> [Demand; MOST_DEMANDS]
     requires few { length demands.now ≤ 64 }
     requires within { AllByRecursion (λ d. (d.from < d.to) × (d.to ≤ 256)) demands.now }
     ensures { take (length demands.now) result ≡ map (seen (listed times.now)) demands.now }
 {
-    let mut windows = [NO_DEMAND; 64];
+    let mut windows = [NO_DEMAND; MOST_DEMANDS];
     for (place, demand) in demands.iter().enumerate() {
         windows[place] = demand.seen(times);
     }
@@ -46,7 +46,7 @@ fn windows(demands: &[Demand], times: &[u16; 257]) -> [Demand; 64]
 }
 
 // Places the demands that lie inside the pair: the others go to the first places, and their number is answered.
-fn place_inside(demands: &mut [Demand], times: &[u16; 257], pair: &Pair) -> usize
+fn place_inside(demands: &mut [Demand], times: &[u16; TICKS + 1], pair: &Pair) -> usize
     requires within { AllByRecursion (λ d. (d.from < d.to) × (d.to ≤ 256)) demands.old }
     ensures left { take result demands.new ≡ unplaced (listed times.now) (times_of pair.now) demands.old }
     ensures count { result ≤ length demands.new }
@@ -63,7 +63,7 @@ fn place_inside(demands: &mut [Demand], times: &[u16; 257], pair: &Pair) -> usiz
 }
 
 // The block of a round, by its pair and the ticks that it takes.
-fn block_of(pair: &Pair, taken: &[bool; 256]) -> Block
+fn block_of(pair: &Pair, taken: &[bool; TICKS]) -> Block
     ensures speed { result.speed ≡ (pair.now.work, extent (times_of pair.now)) }
     ensures from { result.from ≡ first_tick (marked_in taken.now) (length taken.now) }
     ensures to { result.to ≡ past_tick (marked_in taken.now) (length taken.now) }
@@ -79,9 +79,9 @@ fn block_of(pair: &Pair, taken: &[bool; 256]) -> Block
 #[derive(Drop)]
 pub(super) struct Rounds {
     // Which ticks are free.
-    free: [bool; 256],
+    free: [bool; TICKS],
     // The demands that are not yet placed.
-    demands: [Demand; 64],
+    demands: [Demand; MOST_DEMANDS],
     // How many they are: they stand in the first places, and what the others hold means nothing.
     count: usize,
 }
@@ -105,7 +105,7 @@ impl Rounds {
         ensures blocks { result ≡ critical_blocks demands.now }
         ensures plannable { Plannable demands.now }
     {
-        let mut open = [NO_DEMAND; 64];
+        let mut open = [NO_DEMAND; MOST_DEMANDS];
         let mut count = 0;
         for demand in demands.list {
             if demand.units > 0 {
@@ -114,7 +114,7 @@ impl Rounds {
             }
         }
         Rounds {
-            free: [true; 256],
+            free: [true; TICKS],
             demands: open,
             count,
         }

@@ -7,13 +7,14 @@ ghost use Rattle.schedule.specs.Blocks.{first_tick, past_tick};
 ghost use Rattle.planner.specs.Pair.{times_of};
 ghost use Rattle.planner.specs.Ticks.{free_in, marked_in};
 
+use super::demands::TICKS;
 use super::pair::Pair;
 
 // The compressed time of each tick, and of the one after the last: the number of free ticks before it.
-pub(super) fn compressed_times(free: &[bool; 256]) -> [u16; 257]
+pub(super) fn compressed_times(free: &[bool; TICKS]) -> [u16; TICKS + 1]
     ensures { (t : ℕ) → t ≤ 256 → listed result t ≡ compressed (free_in free.now) t }
 {
-    let mut times = [0; 257];
+    let mut times = [0; TICKS + 1];
     for (tick, free) in free.iter().enumerate() {
         times[tick + 1] = times[tick] + u16::from(*free);
     }
@@ -21,10 +22,14 @@ pub(super) fn compressed_times(free: &[bool; 256]) -> [u16; 257]
 }
 
 // The ticks that a round takes: the free ones whose compressed time lies in its pair.
-pub(super) fn taken_ticks(free: &[bool; 256], times: &[u16; 257], pair: &Pair) -> [bool; 256]
+pub(super) fn taken_ticks(
+    free: &[bool; TICKS],
+    times: &[u16; TICKS + 1],
+    pair: &Pair,
+) -> [bool; TICKS]
     ensures { (t : ℕ) → t < 256 → marked_in result t ≡ (free_in free.now t && between (times_of pair.now) (listed times.now t)) }
 {
-    let mut taken = [false; 256];
+    let mut taken = [false; TICKS];
     for (tick, free) in free.iter().enumerate() {
         taken[tick] = *free && pair.has(times[tick]);
     }
@@ -32,7 +37,7 @@ pub(super) fn taken_ticks(free: &[bool; 256], times: &[u16; 257], pair: &Pair) -
 }
 
 // Takes ticks from the free ones.
-pub(super) fn take_ticks(free: &mut [bool; 256], taken: &[bool; 256])
+pub(super) fn take_ticks(free: &mut [bool; TICKS], taken: &[bool; TICKS])
     ensures { (t : ℕ) → t < 256 → free_in free.new t ≡ (free_in free.old t && not (marked_in taken.now t)) }
 {
     for (tick, taken) in taken.iter().enumerate() {
@@ -43,15 +48,15 @@ pub(super) fn take_ticks(free: &mut [bool; 256], taken: &[bool; 256])
 }
 
 // The first of the ticks.
-pub(super) fn first_tick(ticks: &[bool; 256]) -> u16
+pub(super) fn first_tick(ticks: &[bool; TICKS]) -> u16
     ensures { result ≡ first_tick (marked_in ticks.now) (length ticks.now) }
 {
     let first = ticks.iter().position(|tick| *tick);
-    first.unwrap_or(256) as u16
+    first.unwrap_or(TICKS) as u16
 }
 
 // The tick after the last of them.
-pub(super) fn past_tick(ticks: &[bool; 256]) -> u16
+pub(super) fn past_tick(ticks: &[bool; TICKS]) -> u16
     ensures { result ≡ past_tick (marked_in ticks.now) (length ticks.now) }
 {
     let last = ticks.iter().rposition(|tick| *tick);

@@ -10,7 +10,7 @@ ghost use Rattle.planner.specs.Blocks.{open_demands, critical_blocks};
 ghost use Rattle.planner_c.specs.Jobs.{demands};
 ghost use Rattle.planner_c.specs.Found.{found_blocks};
 
-use planner::{Demand, Demands, NO_DEMAND, critical_blocks, settings};
+use planner::{Demand, Demands, MOST_DEMANDS, NO_DEMAND, TICKS, critical_blocks, settings};
 
 /// An open job seen from now: its window [from, to) in ticks from now, and its work left.
 // Of the same fields as `Demand`, which has a `Model`: no such type crosses to C.
@@ -25,7 +25,7 @@ pub struct Job {
 /// A setting for each tick from now on.
 #[repr(C)]
 pub struct Settings {
-    pub ticks: [u32; 256],
+    pub ticks: [u32; TICKS],
 }
 
 /// A critical block: its work, its length in ticks, its first tick, and the tick after its last. They count from now.
@@ -42,7 +42,7 @@ pub struct Block {
 #[repr(C)]
 pub struct Blocks {
     pub count: usize,
-    pub places: [Block; 64],
+    pub places: [Block; MOST_DEMANDS],
 }
 
 // The jobs as demands, written to as many places.
@@ -56,13 +56,13 @@ fn copy(jobs: &[Job], places: &mut [Demand])
 }
 
 // The demands of these jobs, written to the first places, or the number that tells why there are none.
-fn demands_of<'a>(jobs: &[Job], places: &'a mut [Demand; 64]) -> Result<Demands<'a>, u32>
+fn demands_of<'a>(jobs: &[Job], places: &'a mut [Demand; MOST_DEMANDS]) -> Result<Demands<'a>, u32>
     ensures many { result ≡ Err 1 ↔ 64 < length jobs.now }
     ensures planned { IsOk result ↔ Plannable (demands jobs.now) }
     ensures otherwise { IfErr result (λ why. (0 < why) × (why ≤ 2)) }
     ensures demands { IfOk result (λ found. found ≡ demands jobs.now) }
 {
-    if jobs.len() > 64 {
+    if jobs.len() > MOST_DEMANDS {
         return Err(1);
     }
     let list = &mut places[..jobs.len()];
@@ -83,7 +83,7 @@ pub extern "C" fn planner_settings(jobs: &[Job], found: &mut Settings) -> u32
     ensures in_force { result ≡ 0 → InForce horizon (demands jobs.now) (listed found.new.ticks) }
     ensures unchanged { 0 < result → found.new ≡ found.old }
 {
-    let mut places = [NO_DEMAND; 64];
+    let mut places = [NO_DEMAND; MOST_DEMANDS];
     let demands = match demands_of(jobs, &mut places) {
         Ok(demands) => demands,
         Err(why) => return why,
@@ -126,7 +126,7 @@ pub extern "C" fn planner_blocks(jobs: &[Job], found: &mut Blocks) -> u32
     ensures critical { result ≡ 0 → Blocked horizon (open_demands (demands jobs.now)) }
     ensures unchanged { 0 < result → found.new ≡ found.old }
 {
-    let mut places = [NO_DEMAND; 64];
+    let mut places = [NO_DEMAND; MOST_DEMANDS];
     let demands = match demands_of(jobs, &mut places) {
         Ok(demands) => demands,
         Err(why) => return why,
