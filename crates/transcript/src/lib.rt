@@ -1,4 +1,4 @@
-// What `bench` prints of a file of records, which it works with a book: a line for each.
+//! What `bench` prints of a file of records, which it works with a book: a line for each.
 #![tactic(auto)]
 
 mod bench;
