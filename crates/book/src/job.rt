@@ -2,12 +2,13 @@
 ghost use Rattle.std.specs.Prelude.{◌≡◌, ◌≤◌};
 
 use super::fault::BookField;
+use super::settings::SETTINGS;
 
 /// The last tick of all.
 pub(super) const LAST_TICK: u64 = (1 << 48) - 1;
 
 /// How many ticks from now the book looks at.
-pub(super) const HORIZON: u64 = 256;
+pub(super) const HORIZON: u64 = SETTINGS as u64;
 
 /// A job: its ticket, its window from the arrival up to but not including the deadline, and its work left.
 #[derive(Clone, Copy, PartialEq, Eq, Debug)]

@@ -21,9 +21,7 @@ fn read_clock(bytes: &[u8; RECORD_LEN]) -> Option<(u64, u8)>
 {
     let numbers = Numbers::of(bytes);
     let now = numbers.arrival;
-    let Ok(top) = u8::try_from(numbers.work) else {
-        return None;
-    };
+    let top = u8::try_from(numbers.work).ok()?;
     if top == 0 || *bytes != clock_record(now, top) {
         return None;
     }

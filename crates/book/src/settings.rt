@@ -13,10 +13,10 @@ use super::table::PLACES;
 use planner::NO_DEMAND;
 
 /// How many settings are in force: one for each tick from now on.
-pub const SETTINGS: usize = 256;
+pub const SETTINGS: usize = planner::TICKS;
 
 // The settings in force for open jobs.
-pub(super) fn settings_in_force(jobs: &[Job], now: u64) -> [u32; SETTINGS]
+fn settings_in_force(jobs: &[Job], now: u64) -> [u32; SETTINGS]
     requires few { length jobs.now ≤ 64 }
     requires in_order { InOrder jobs.now }
     requires open { All (OpenAt now) jobs.now }

@@ -9,7 +9,6 @@ ghost use Rattle.book.specs.Ticks.{shares, worked, entries, with_entries, ticked
 use super::book::Book;
 use super::fault::BookFault;
 use super::job::{Job, LAST_TICK};
-use super::settings::settings_in_force;
 use super::table::PLACES;
 use queue::{ReadyJob, ReadyQueue};
 
@@ -112,8 +111,7 @@ impl Book {
         if self.tick == LAST_TICK {
             return Err(BookFault::LastTick { now: self.tick });
         }
-        let settings = settings_in_force(self.jobs.jobs(), self.tick);
-        let setting = settings[0] as u8;
+        let setting = self.setting_bytes()[0];
         let count = self.jobs.serve(self.tick, setting, list);
         self.jobs.close_done();
         self.tick += 1;

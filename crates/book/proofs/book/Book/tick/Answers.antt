@@ -5,25 +5,18 @@ use Rattle.std.specs.List.{filter, sum_by}
 use Rattle.schedule.specs.InForce.{horizon}
 use Rattle.schedule.proofs.Theory.{theory}
 use Rattle.book.specs.declared.tick.Entry.{Entry}
-use Rattle.book.specs.Book.{View, with_jobs, last_tick}
+use Rattle.book.specs.Book.{View, last_tick}
 use Rattle.book.specs.Settings.{settings_of}
 use Rattle.book.specs.Ticks.{has_work, with_entries}
 use Rattle.book.proofs.Serving.{jobs_then, entries_then}
 use Rattle.book.proofs.Ticking.{gives_setting, lawful_after}
 use Rattle.book.proofs.book.Book.tick.Goals as goal
 
-pub overflow_cast-setting : goal.overflow_cast-setting
-overflow_cast-setting c =
-    let b : View = record { now = c.self.inside.tick; top = c.self.inside.top; jobs = c.self.inside.jobs } in
-    let lt : 0 < horizon = omega (arith, theory.ticks) in
-    let setting : get_or c.settings_in_force-settings.result 0 0 ≡ settings_of b 0 = c.settings_in_force-settings.ensures.settings 0 lt ∙ ap (λ js. settings_of (with_jobs js b) 0) c.jobs.ensures.jobs in
-    omega (arith, setting, theory.standing.within _ b.top c.self.invariant.none_overloaded 0 lt, c.self.invariant.well_formed.top_within)
-
 pub invariant_of-self : goal.invariant_of-self
 invariant_of-self c =
     let b : View = record { now = c.self.inside.tick; top = c.self.inside.top; jobs = c.self.inside.jobs } in
     let lt : 0 < horizon = omega (arith, theory.ticks) in
-    let setting : get_or c.settings_in_force-settings.result 0 0 ≡ settings_of b 0 = c.settings_in_force-settings.ensures.settings 0 lt ∙ ap (λ js. settings_of (with_jobs js b) 0) c.jobs.ensures.jobs in
+    let setting : get_or c.setting_bytes.result 0 0 ≡ settings_of b 0 = c.setting_bytes.ensures.settings 0 lt ∙ ap (λ v. settings_of v 0) (sym c.self.view_is) in
     let jobs : c.close_done.new.self ≡ filter has_work (jobs_then b.now (settings_of b 0) b.jobs) =
     c.close_done.ensures ∙ ap (filter has_work) (c.serve-count.ensures.jobs ∙ ap (λ u. jobs_then b.now u b.jobs) setting) in
     rw jobs (lawful_after b c.self.invariant c.if-self-eq-LAST_TICK.false)
@@ -32,7 +25,7 @@ pub returns : goal.returns
 returns c =
     let b : View = record { now = c.self.inside.tick; top = c.self.inside.top; jobs = c.self.inside.jobs } in
     let lt : 0 < horizon = omega (arith, theory.ticks) in
-    let setting : get_or c.settings_in_force-settings.result 0 0 ≡ settings_of b 0 = c.settings_in_force-settings.ensures.settings 0 lt ∙ ap (λ js. settings_of (with_jobs js b) 0) c.jobs.ensures.jobs in
+    let setting : get_or c.setting_bytes.result 0 0 ≡ settings_of b 0 = c.setting_bytes.ensures.settings 0 lt ∙ ap (λ v. settings_of v 0) (sym c.self.view_is) in
     let jobs : c.close_done.new.self ≡ filter has_work (jobs_then b.now (settings_of b 0) b.jobs) =
     c.close_done.ensures ∙ ap (filter has_work) (c.serve-count.ensures.jobs ∙ ap (λ u. jobs_then b.now u b.jobs) setting) in
     let es = entries_then b.now (settings_of b 0) b.jobs in
@@ -42,7 +35,7 @@ returns c =
     let more : (b.now == last_tick) ≡ false = grind (arith, nat_tests) in
     let written : take c.serve-count.result c.serve-count.new.list ≡ es =
     (λ i. take (count i) (list i)) ∙ take-append_seam es (drop (length es) c.args.list.now) in
-    let gives : sum_by (λ e. e.units) (take c.serve-count.result c.serve-count.new.list) ≡ get_or c.settings_in_force-settings.result 0 0 =
+    let gives : sum_by (λ e. e.units) (take c.serve-count.result c.serve-count.new.list) ≡ get_or c.setting_bytes.result 0 0 =
     ap (sum_by (λ (e : Entry). e.units)) written ∙ gives_setting b c.self.invariant ∙ sym setting in
     rw (← c.self.view_is, enough, more) (record {
       answer = λ i. Ok (record { setting = setting i; count = count i });
