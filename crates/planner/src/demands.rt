@@ -1,7 +1,8 @@
 // The demands that settings are made for.
-ghost use Rattle.std.specs.Prelude.{◌≡◌, ◌↔◌, IfSome, IsSome, IsTrue};
+ghost use Rattle.std.specs.Prelude.{◌≡◌, ◌≤◌, ◌↔◌, length, IfSome, IsSome, IsTrue};
 ghost use Rattle.schedule.specs.Demands.{Sorted, Sound};
 ghost use Rattle.schedule.specs.InForce.{horizon};
+ghost use Rattle.schedule.specs.Work.{inside, work};
 ghost use Rattle.planner.specs.Plannable.{Plannable};
 
 use std::marker::Model;
@@ -28,6 +29,26 @@ impl Model for Demand {
     ghost view = { λ d. record { from = d.from; to = d.to; units = d.units } };
 
     ghost inverse = { λ d. record { from = d.from; to = d.to; units = d.units } };
+}
+
+impl Demand {
+    // Whether its window lies inside the interval from low to high. `&` takes no branch, as `&&` would, and is faster here.
+    pub(super) fn is_inside(&self, low: u16, high: u16) -> bool
+        ensures { result ≡ inside low high self.now }
+    {
+        (low <= self.from) & (self.to <= high)
+    }
+}
+
+// The work of the windows that lie inside the interval from low to high: each window's units once or not at all, with no branch.
+pub(super) fn work_inside(windows: &[Demand], low: u16, high: u16) -> u32
+    requires { length windows.now ≤ 64 }
+    ensures { result ≡ work windows.now low high }
+{
+    windows
+        .iter()
+        .map(|window| u32::from(window.is_inside(low, high)) * u32::from(window.units))
+        .sum()
 }
 
 /// A demand of no ticks and no units, for the places that no open job takes.
@@ -83,5 +104,11 @@ impl<'a> Demands<'a> {
         } else {
             None
         }
+    }
+    /// The work of the demands whose windows lie inside the interval from low to high.
+    pub fn work_inside(&self, low: u16, high: u16) -> u32
+        ensures { result ≡ work self.now low high }
+    {
+        work_inside(self.list, low, high)
     }
 }

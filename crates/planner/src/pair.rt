@@ -1,28 +1,7 @@
 // Pairs of compressed times.
 ghost use Rattle.std.specs.Prelude.{◌≡◌, ◌<◌, ◌≤◌, length};
-ghost use Rattle.schedule.specs.Work.{inside, work};
 
-use super::demands::Demand;
-
-impl Demand {
-    // Whether its window lies inside the interval from low to high. `&` takes no branch, as `&&` would, and is faster here.
-    pub(super) fn is_inside(&self, low: u16, high: u16) -> bool
-        ensures { result ≡ inside low high self.now }
-    {
-        (low <= self.from) & (self.to <= high)
-    }
-}
-
-// The work of the windows that lie inside the interval from low to high: each window's units once or not at all, with no branch.
-fn work_inside(windows: &[Demand], low: u16, high: u16) -> u32
-    requires { length windows.now ≤ 64 }
-    ensures { result ≡ work windows.now low high }
-{
-    windows
-        .iter()
-        .map(|window| u32::from(window.is_inside(low, high)) * u32::from(window.units))
-        .sum()
-}
+use super::demands::{Demand, work_inside};
 
 // A pair of compressed times, and the work of the windows that lie inside.
 #[derive(Clone, Copy)]

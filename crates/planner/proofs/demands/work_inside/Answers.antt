@@ -4,7 +4,7 @@ use Rattle.std.proofs.lemmas.Iterator.{YieldsList-from_slice, YieldsList-from_ma
 use Rattle.std.proofs.lemmas.Iterator.Consumers.{sum_by_from_yields_List}
 use Rattle.schedule.specs.Work.{inside}
 use Rattle.planner.proofs.Windows.{work-sum}
-use Rattle.planner.proofs.pair.work_inside.Goals as goal
+use Rattle.planner.proofs.demands.work_inside.Goals as goal
 
 pub returns : goal.returns
 returns c =
