@@ -11,7 +11,10 @@ use Rattle.book.specs.declared.job.Job.{Job}
 use Rattle.std.proofs.lemmas.List.Quantifiers.{position-Some}
 use Rattle.std.proofs.lemmas.List.Folds.{list_any_at}
 use Rattle.book.specs.Jobs.{has_ticket, is_open, without}
-use Rattle.book.proofs.Searching.{no_job}
+
+-- a job with no values
+abbrev pub no_job : Job
+no_job = record { ticket = 0; arrival = 0; deadline = 0; work = 0 }
 
 -- what holds of all jobs and one more holds of them with that one
 pub All-insert : {X : Type 0} (P : X → Type 0) (xs : List X) (i : ℕ) (y : X) → P y → All P xs → All P (insert xs i y)

@@ -1,6 +1,7 @@
--- what demands are of the jobs that they come from
+-- what the demands of open jobs are
 pub mod DemandFacts
--- the search through starts and ends
+-- the work inside an interval, and the search through starts and ends
+pub mod WorkInside
 pub mod Searching
 -- the open jobs in their places, and lists with one more or one less
 pub mod Places

@@ -1,23 +1,17 @@
 -- The search for an overloaded interval, by what it has passed.
-use Rattle.std.proofs.Common.{◌≡◌, ℕ, zero, suc, ◌+◌, ◌-◌, ◌*◌, ◌<◌, ◌≤◌, Bool, true, false, inl, inr, drop, List, length, get_or, take, nat_le, Some, None, sym, refl, subst, mul-le-mul_left, arith}
+use Rattle.std.proofs.Common.{◌≡◌, ℕ, zero, suc, ◌+◌, ◌-◌, ◌*◌, ◌<◌, ◌≤◌, Bool, true, false, inl, inr, drop, List, [], ◌∷◌, length, get_or, take, nat_le, Some, None, sym, refl, subst, mul-le-mul_left, arith}
+use Rattle.std.proofs.ByRecursion.{All-get_or}
 use Rattle.std.specs.List.{All, prefix_len, sum_by}
 use Rattle.std.proofs.lemmas.Bool.{cases_eq, cases_lt}
 use Rattle.std.proofs.lemmas.Bool.Decides.{nat_tests}
 use Rattle.std.proofs.lemmas.List.{take-take, length-take, length-drop, get_or-take, get_or-drop, get_or_default}
 use Rattle.std.proofs.lemmas.List.Elements.{All-take}
 use Rattle.std.proofs.lemmas.List.Sums.{prefix_len_passes, prefix_len_stops, prefix_len-le-length, sum_by_more}
-use Rattle.schedule.specs.Demands.{Demand, Sound}
+use Rattle.schedule.specs.Demands.{Demand, Sound, Sorted}
 use Rattle.schedule.specs.Work.{work}
 use Rattle.schedule.specs.Overload.{starts, ends, overloaded, over, first, up_to, first_overload}
 use Rattle.schedule.proofs.WorkLaws.{work_empty}
-use Rattle.book.specs.declared.job.Job.{Job}
-use Rattle.book.specs.Demands.{demand, demands}
-use Rattle.book.specs.Book.{InOrder}
-use Rattle.book.proofs.DemandFacts.{work_from, work-at_least, work-at_most}
-
--- a job with no values
-abbrev pub no_job : Job
-no_job = record { ticket = 0; arrival = 0; deadline = 0; work = 0 }
+use Rattle.book.proofs.WorkInside.{work_from, work-at_least, work-at_most}
 
 -- the first of n numbers that passes a test
 first_none : (p : ℕ → Bool) (k n : ℕ) → ((i : ℕ) → p i ≡ false) → first p k n ≡ None
@@ -62,85 +56,86 @@ overloaded_proper n top ds a b sound more = elim (cases_lt a b) [
   | inr le ↦ absurd (grind (arith, nat_tests, work_empty n ds a b sound le))
 ]
 
--- what the inner loop has passed: from the start a, none of the first n jobs overloads an interval together with those before it
-abbrev pub Passed : ℕ → ℕ → List Job → ℕ → ℕ → Type 0
-Passed now top js a n = (m b : ℕ) → m ≤ n → All (λ j. (demand now j).to ≤ b) (take m js) → sum_by (work_from now a) (take m js) ≤ top * (b - a)
+-- what the inner loop has passed: from the start a, none of the first n demands overloads an interval together with those before it
+abbrev pub Passed : ℕ → List Demand → ℕ → ℕ → Type 0
+Passed top ds a n = (m b : ℕ) → m ≤ n → All (λ d. d.to ≤ b) (take m ds) → sum_by (work_from a) (take m ds) ≤ top * (b - a)
 
--- later jobs end no earlier
-ends_in_order : (now i k : ℕ) (js : List Job) (d : Job) → InOrder js → i ≤ k → k < length js → (demand now (get_or js i d)).to ≤ (demand now (get_or js k d)).to
-ends_in_order now i k js d order le lt = elim (cases_eq i k) [
-  | inl same ↦ subst (λ x. (demand now (get_or js i d)).to ≤ (demand now (get_or js x d)).to) same (omega arith)
-  | inr apart ↦ let before = order i k d (omega arith) lt in grind (arith, nat_tests)
-]
+-- later demands end no earlier
+ends_in_order : (i k : ℕ) (ds : List Demand) (e : Demand) → Sorted ds → i ≤ k → k < length ds → (get_or ds i e).to ≤ (get_or ds k e).to
+ends_in_order i k [] e order le lt = absurd (omega arith)
+ends_in_order zero zero (d ∷ ds) e order le lt = omega arith
+ends_in_order zero (suc k) (d ∷ ds) e order le lt = All-get_or (λ f. d.to ≤ f.to) ds k e (omega arith) order.0
+ends_in_order (suc i) zero (d ∷ ds) e order le lt = absurd (omega arith)
+ends_in_order (suc i) (suc k) (d ∷ ds) e order le lt = ends_in_order i k ds e order.1 (omega arith) (omega arith)
 
--- the number of jobs that end by b, in order of deadline
-abbrev pub ended : ℕ → ℕ → List Job → ℕ
-ended now b js = prefix_len (λ j. nat_le (demand now j).to b) js
+-- the number of demands that end by b, in order of deadline
+abbrev pub ended : ℕ → List Demand → ℕ
+ended b ds = prefix_len (λ d. nat_le d.to b) ds
 
-ended_by : (now b : ℕ) (js : List Job) → All (λ j. (demand now j).to ≤ b) (take (ended now b js) js)
-ended_by now b js k d lt =
-    let p : Job → Bool = λ j. nat_le (demand now j).to b in
-    let low : k < ended now b js = omega (arith, length-take (ended now b js) js) in
-    let here : p (get_or js k d) ≡ true = prefix_len_passes p js k d low in
-    rw (get_or-take (ended now b js) js k d low) (grind (arith, nat_tests))
+ended_by : (b : ℕ) (ds : List Demand) → All (λ d. d.to ≤ b) (take (ended b ds) ds)
+ended_by b ds k e lt =
+    let p : Demand → Bool = λ d. nat_le d.to b in
+    let low : k < ended b ds = omega (arith, length-take (ended b ds) ds) in
+    let here : p (get_or ds k e) ≡ true = prefix_len_passes p ds k e low in
+    rw (get_or-take (ended b ds) ds k e low) (grind (arith, nat_tests))
 
-ended_later : (now b : ℕ) (js : List Job) → InOrder js → All (λ j. b < (demand now j).to) (drop (ended now b js) js)
-ended_later now b js order k d lt =
-    let p : Job → Bool = λ j. nat_le (demand now j).to b in
-    let n = ended now b js in
-    let inside : n + k < length js = omega (arith, length-drop n js) in
-    let stops : p (get_or js n d) ≡ false = prefix_len_stops p js d (omega arith) in
-    let later = ends_in_order now n (n + k) js d order (omega arith) inside in
-    rw (get_or-drop n js k d) (grind (arith, nat_tests))
+ended_later : (b : ℕ) (ds : List Demand) → Sorted ds → All (λ d. b < d.to) (drop (ended b ds) ds)
+ended_later b ds order k e lt =
+    let p : Demand → Bool = λ d. nat_le d.to b in
+    let n = ended b ds in
+    let inside : n + k < length ds = omega (arith, length-drop n ds) in
+    let stops : p (get_or ds n e) ≡ false = prefix_len_stops p ds e (omega arith) in
+    let later = ends_in_order n (n + k) ds e order (omega arith) inside in
+    rw (get_or-drop n ds k e) (grind (arith, nat_tests))
 
 -- they are no more than there are
-pub ended_all : (now b : ℕ) (js : List Job) → ended now b js ≤ length js
-ended_all now b js = prefix_len-le-length (λ j. nat_le (demand now j).to b) js
+pub ended_all : (b : ℕ) (ds : List Demand) → ended b ds ≤ length ds
+ended_all b ds = prefix_len-le-length (λ d. nat_le d.to b) ds
 
 -- an interval is not over where all that end by its end are passed
-pub over_passed : (now top : ℕ) (js : List Job) (a n b : ℕ) → InOrder js → Passed now top js a n → ended now b js ≤ n → over top (demands now js) a b ≡ false
-over_passed now top js a n b order passed le =
-    let few = passed (ended now b js) b le (ended_by now b js) in
-    let all = work-at_most now a b (ended now b js) js (ended_later now b js order) in
+pub over_passed : (top : ℕ) (ds : List Demand) (a n b : ℕ) → Sorted ds → Passed top ds a n → ended b ds ≤ n → over top ds a b ≡ false
+over_passed top ds a n b order passed le =
+    let few = passed (ended b ds) b le (ended_by b ds) in
+    let all = work-at_most a b (ended b ds) ds (ended_later b ds order) in
     grind (arith, nat_tests)
 
--- they are passed where a job that is not ends later
-pub ended_before : (now b i : ℕ) (js : List Job) (d : Job) → b < (demand now (get_or js i d)).to → ended now b js ≤ i
-ended_before now b i js d later = elim (cases_lt i (ended now b js)) [
-  | inl lt ↦ let here = prefix_len_passes (λ j. nat_le (demand now j).to b) js i d lt in absurd (grind (arith, nat_tests))
+-- they are passed where a demand that is not ends later
+pub ended_before : (b i : ℕ) (ds : List Demand) (e : Demand) → b < (get_or ds i e).to → ended b ds ≤ i
+ended_before b i ds e later = elim (cases_lt i (ended b ds)) [
+  | inl lt ↦ let here = prefix_len_passes (λ d. nat_le d.to b) ds i e lt in absurd (grind (arith, nat_tests))
   | inr le ↦ le
 ]
 
--- an interval to the end of a job holds the work of it and of those before it
-pub work_up_to : (now a i : ℕ) (js : List Job) (d : Job) → InOrder js → i < length js
-    → sum_by (work_from now a) (take (i + 1) js) ≤ work (demands now js) a (demand now (get_or js i d)).to
-work_up_to now a i js d order lt = work-at_least now a (demand now (get_or js i d)).to (i + 1) js up_to_end
+-- an interval to the end of a demand holds the work of it and of those before it
+pub work_up_to : (a i : ℕ) (ds : List Demand) (e : Demand) → Sorted ds → i < length ds
+    → sum_by (work_from a) (take (i + 1) ds) ≤ work ds a (get_or ds i e).to
+work_up_to a i ds e order lt = work-at_least a (get_or ds i e).to (i + 1) ds up_to_end
   where
-    up_to_end : All (λ j. (demand now j).to ≤ (demand now (get_or js i d)).to) (take (i + 1) js)
-    up_to_end k e h =
-        let low : k < i + 1 = omega (arith, length-take (i + 1) js) in
-        rw (get_or-take (i + 1) js k e low, get_or_default js k e d (omega arith)) (ends_in_order now k i js d order (omega arith) lt)
+    up_to_end : All (λ d. d.to ≤ (get_or ds i e).to) (take (i + 1) ds)
+    up_to_end k f h =
+        let low : k < i + 1 = omega (arith, length-take (i + 1) ds) in
+        rw (get_or-take (i + 1) ds k f low, get_or_default ds k f e (omega arith)) (ends_in_order k i ds e order (omega arith) lt)
 
--- a job that starts before a passes
-pub passed_early : (now top : ℕ) (js : List Job) (a i : ℕ) (d : Job) → i < length js → (demand now (get_or js i d)).from < a → Passed now top js a i → Passed now top js a (i + 1)
-passed_early now top js a i d lt early passed m b le all = elim (cases_lt i m) [
+-- a demand that starts before a passes
+pub passed_early : (top : ℕ) (ds : List Demand) (a i : ℕ) (e : Demand) → i < length ds → (get_or ds i e).from < a → Passed top ds a i → Passed top ds a (i + 1)
+passed_early top ds a i e lt early passed m b le all = elim (cases_lt i m) [
   | inl here ↦
       let same : m ≡ i + 1 = omega arith in
       let low : i ≤ m = omega arith in
-      let before : All (λ j. (demand now j).to ≤ b) (take i (take m js)) = All-take (λ j. (demand now j).to ≤ b) i (take m js) all in
-      let few = passed i b (omega arith) (subst (All (λ j. (demand now j).to ≤ b)) (take-take i m js low) before) in
-      rw same (grind (arith, nat_tests, sum_by_more (work_from now a) js i d lt))
+      let before : All (λ d. d.to ≤ b) (take i (take m ds)) = All-take (λ d. d.to ≤ b) i (take m ds) all in
+      let few = passed i b (omega arith) (subst (All (λ d. d.to ≤ b)) (take-take i m ds low) before) in
+      rw same (grind (arith, nat_tests, sum_by_more (work_from a) ds i e lt))
   | inr earlier ↦ passed m b earlier all
 ]
 
 -- and one with which the work so far does not overload the interval to its end
-pub passed_within : (now top : ℕ) (js : List Job) (a i : ℕ) (d : Job) → i < length js
-    → sum_by (work_from now a) (take (i + 1) js) ≤ top * ((demand now (get_or js i d)).to - a) → Passed now top js a i → Passed now top js a (i + 1)
-passed_within now top js a i d lt within passed m b le all = elim (cases_lt i m) [
+pub passed_within : (top : ℕ) (ds : List Demand) (a i : ℕ) (e : Demand) → i < length ds
+    → sum_by (work_from a) (take (i + 1) ds) ≤ top * ((get_or ds i e).to - a) → Passed top ds a i → Passed top ds a (i + 1)
+passed_within top ds a i e lt within passed m b le all = elim (cases_lt i m) [
   | inl here ↦
       let same : m ≡ i + 1 = omega arith in
-      let ends : (demand now (get_or js i d)).to ≤ b = subst (λ j. (demand now j).to ≤ b) (get_or-take m js i d here) (all i d (omega (arith, length-take m js))) in
-      let wider : top * ((demand now (get_or js i d)).to - a) ≤ top * (b - a) = mul-le-mul_left top (omega arith) in
+      let ends : (get_or ds i e).to ≤ b = subst (λ d. d.to ≤ b) (get_or-take m ds i e here) (all i e (omega (arith, length-take m ds))) in
+      let wider : top * ((get_or ds i e).to - a) ≤ top * (b - a) = mul-le-mul_left top (omega arith) in
       rw same (omega (arith, within, wider))
   | inr earlier ↦ passed m b earlier all
 ]

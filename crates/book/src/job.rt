@@ -20,7 +20,6 @@ pub struct Job {
 }
 
 impl Job {
-    ghost use Rattle.schedule.specs.Work.{inside};
     ghost use Rattle.book.specs.Jobs.{is_before};
     ghost use Rattle.book.specs.Demands.{demand};
     ghost use Rattle.book.specs.Book.{last_tick};
@@ -45,13 +44,6 @@ impl Job {
         ensures { result ≡ (demand now self.now).to }
     {
         self.deadline.saturating_sub(now)
-    }
-
-    // Whether its window lies inside the interval, in ticks from now.
-    pub(super) fn is_inside(&self, now: u64, start: u64, end: u64) -> bool
-        ensures { result ≡ inside start end (demand now self.now) }
-    {
-        start <= self.start(now) && self.end(now) <= end
     }
 
     // Whether each field has a value that an offered job can have at now; if not, the first that has none.

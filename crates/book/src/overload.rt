@@ -1,33 +1,51 @@
-// The search for an overloaded interval. Its ticks count from now.
+// The search for an overloaded interval.
 ghost use Rattle.std.specs.Prelude.{◌≡◌, ◌≤◌, length, All};
-ghost use Rattle.schedule.specs.Work.{work};
-ghost use Rattle.schedule.specs.Overload.{starts};
-ghost use Rattle.book.specs.Demands.{demands};
+ghost use Rattle.schedule.specs.Compressed.{NonEmpty};
+ghost use Rattle.schedule.specs.InForce.{horizon};
+ghost use Rattle.schedule.specs.Overload.{starts, first_overload};
 ghost use Rattle.book.specs.Book.{OpenAt, InOrder, last_tick};
 ghost use Rattle.book.specs.Calls.{overload_fault};
 
+use super::demands::demands_of;
 use super::fault::BookFault;
-use super::job::{HORIZON, Job};
-
-// The work left of the jobs whose windows lie inside the interval.
-fn work_inside(jobs: &[Job], now: u64, start: u64, end: u64) -> u32
-    requires { length jobs.now ≤ 64 }
-    ensures { result ≡ work (demands now jobs.now) start end }
-{
-    jobs.iter()
-        .filter(|job| job.is_inside(now, start, end))
-        .map(|job| u32::from(job.work))
-        .sum()
-}
+use super::job::Job;
+use super::table::PLACES;
+use planner::{Demands, NO_DEMAND, TICKS};
 
 // Whether a window starts at the tick.
-fn starts_at(jobs: &[Job], now: u64, start: u64) -> bool
-    ensures { result ≡ starts start (demands now jobs.now) }
+fn starts_at(demands: &Demands, start: u16) -> bool
+    ensures { result ≡ starts start demands.now }
 {
-    jobs.iter().any(|job| job.start(now) == start)
+    demands.list.iter().any(|demand| demand.from == start)
 }
 
-// The fault of the overloaded interval with the least start and, among those, the least end.
+// The overloaded interval with the least start and, among those, the least end.
+fn first_overload(demands: &Demands, top: u8) -> Option<(u16, u16)>
+    requires { NonEmpty horizon demands.now }
+    ensures { result ≡ first_overload top demands.now 0 horizon }
+{
+    'search: {
+        for start in 0..TICKS as u16 {
+            if !starts_at(demands, start) {
+                continue;
+            }
+            // By deadline: what is added up lies inside the interval to the demand's end. Demands with the same end may follow.
+            let mut work = 0;
+            for demand in demands.list {
+                if demand.from < start {
+                    continue;
+                }
+                work += u32::from(demand.units);
+                if work > u32::from(top) * u32::from(demand.to - start) {
+                    break 'search Some((start, demand.to));
+                }
+            }
+        }
+        None
+    }
+}
+
+// The fault of the first overloaded interval, whose ticks count from now.
 pub(super) fn overload_fault(jobs: &[Job], now: u64, top: u8) -> Option<BookFault>
     requires in_time { now ≤ last_tick }
     requires few { length jobs.now ≤ 64 }
@@ -35,28 +53,12 @@ pub(super) fn overload_fault(jobs: &[Job], now: u64, top: u8) -> Option<BookFaul
     requires open { All (OpenAt now) jobs.now }
     ensures { result ≡ overload_fault (record { now = now; top = top; jobs = jobs.now }) }
 {
-    'search: {
-        for start in 0..HORIZON {
-            if !starts_at(jobs, now, start) {
-                continue;
-            }
-            // By deadline: what is added up lies inside the interval to the job's end. Jobs with the same end may follow.
-            let mut work = 0;
-            for job in jobs {
-                if job.start(now) < start {
-                    continue;
-                }
-                work += u32::from(job.work);
-                let end = job.end(now);
-                if u64::from(work) > u64::from(top) * (end - start) {
-                    break 'search Some(BookFault::Overload {
-                        start: now + start,
-                        end: now + end,
-                        work: work_inside(jobs, now, start, end),
-                    });
-                }
-            }
-        }
-        None
-    }
+    let mut places = [NO_DEMAND; PLACES];
+    let demands = demands_of(&mut places, jobs, now);
+    let (start, end) = first_overload(&demands, top)?;
+    Some(BookFault::Overload {
+        start: now + u64::from(start),
+        end: now + u64::from(end),
+        work: demands.work_inside(start, end),
+    })
 }

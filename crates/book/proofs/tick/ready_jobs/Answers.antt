@@ -1,7 +1,7 @@
 use Rattle.std.proofs.Common.{◌∙◌, get_or, arith}
 use Rattle.queue.specs.Slots.{slots_of, held}
 use Rattle.planner.proofs.Slots.{put_added}
-use Rattle.book.proofs.Searching.{no_job}
+use Rattle.book.proofs.Jobs.{no_job}
 use Rattle.book.proofs.Ready.{queue_more, queue_same, all_queued}
 use Rattle.book.specs.Ready.{ready}
 use Rattle.book.proofs.tick.ready_jobs.Goals as goal

@@ -4,7 +4,7 @@ use Rattle.planner.proofs.Slots.{take_removed}
 use Rattle.queue.specs.Elements.{ready_before}
 use Rattle.book.specs.declared.job.Job.{Job}
 use Rattle.book.specs.Ticks.{worked}
-use Rattle.book.proofs.Searching.{no_job}
+use Rattle.book.proofs.Jobs.{no_job}
 use Rattle.book.proofs.Ready.{took_none}
 use Rattle.book.proofs.Serving.{Serving, jobs_then, entries_then, started, next, used_up, all_served}
 use Rattle.book.proofs.tick.serve.Goals as goal

@@ -1,6 +1,6 @@
 use Rattle.std.proofs.Common.{◌≡◌, true, false, length, get_or, arith, rules}
 use Rattle.std.proofs.lemmas.Bool.Decides.{nat_tests}
-use Rattle.book.proofs.Searching.{no_job}
+use Rattle.book.proofs.Jobs.{no_job}
 use Rattle.book.specs.Ticks.{has_work}
 use Rattle.book.proofs.Ticking.{kept, closed}
 use Rattle.book.proofs.table.Table.close_done.Goals as goal
