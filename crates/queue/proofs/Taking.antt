@@ -1,5 +1,5 @@
 -- What a take of the first element of a heap says.
-use Rattle.std.proofs.Common.{◌≡◌, ℕ, ◌+◌, ◌<◌, ◌≤◌, Bool, false, List, [], ◌∷◌, ◌++◌, length, get_or, take, drop, Some, refl, sym, ap, ◌∙◌, length-append, length-drop, arith}
+use Rattle.std.proofs.Common.{◌≡◌, ℕ, ◌+◌, ◌-◌, ◌<◌, ◌≤◌, Bool, false, List, [], ◌∷◌, ◌++◌, length, get_or, take, drop, Some, refl, sym, ap, subst, ◌∙◌, length-append, length-drop, arith}
 use Rattle.std.specs.Cmp.{IsStrictWeakOrder}
 use Rattle.std.specs.List.{AllByRecursion}
 use Rattle.std.specs.List.Sorted.{IsPermutation}
@@ -9,7 +9,7 @@ use Rattle.std.proofs.lemmas.List.Sorted.{IsPermutation-cons, IsPermutation-to_f
 use Rattle.queue.specs.Order.{JustOne}
 use Rattle.queue.specs.Slots.{Slots, held}
 use Rattle.queue.specs.Tree.{HeapOrder}
-use Rattle.queue.specs.Says.{TakeSays}
+use Rattle.queue.specs.Says.{TakeSays, LeastSays, ReplaceSays}
 use Rattle.queue.proofs.Steps.{least_at_root}
 use Rattle.queue.proofs.Sifting.{from_heap}
 use Rattle.queue.proofs.Pinned.{is_least}
@@ -57,3 +57,41 @@ module _ {X : Type 0} {before : X → X → Bool} (same : X → X → Bool) (one
       let all : held q ≡ get_or s 0 d ∷ [] = ap (λ n. take n s) count ∙ (ap (λ n. take (n + 1) s) m0 ∙ ap (take 1) (starts s d (omega (arith, count, fits)))) in
       let left : held r ≡ [] = ap held is ∙ ap (λ n. take n s) m0 in
       taken (ap (λ v. v.count) is) (ap (λ v. length v.places) is) (rw (all, left) (IsPermutation-refl _))
+
+-- what stays without the first of the elements that q holds as a heap, and what is held with x besides that
+module _ {X : Type 0} {before : X → X → Bool} (same : X → X → Bool) (one : (x y : X) → JustOne (before x y) (same x y) (before y x)) (o : IsStrictWeakOrder before)
+    (q : Slots X) (d : X) (fits : q.count ≤ length q.places) (ordered : HeapOrder before (held q)) (some : 0 < q.count) where
+  abbrev rest : Slots X
+  rest = record { places = drop 1 (held q) ++ drop (q.count - 1) q.places; count = q.count - 1 }
+
+  length-others : length (drop 1 (held q)) ≡ q.count - 1
+  length-others = omega (arith, length-drop 1 (held q), length-take-le q.count q.places fits)
+
+  held-rest : held rest ≡ drop 1 (held q)
+  held-rest = take_at (drop 1 (held q)) (drop (q.count - 1) q.places) (q.count - 1) length-others
+
+  length-rest : length rest.places ≡ length q.places
+  length-rest = omega (arith, length-append (drop 1 (held q)) (drop (q.count - 1) q.places), length-drop (q.count - 1) q.places, length-others, some, fits)
+
+  first_out : TakeSays before same q rest (Some (get_or q.places 0 d))
+  first_out =
+      let e : held q ≡ get_or q.places 0 d ∷ held rest = starts (held q) d (omega (arith, length-take-le q.count q.places fits, some))
+      ∙ (ap (λ z. z ∷ drop 1 (held q)) (get_or-take q.count q.places 0 d some) ∙ ap (λ l. get_or q.places 0 d ∷ l) (sym held-rest)) in
+      taken same one o q rest (q.count - 1) d fits ordered (omega (arith, some)) refl length-rest (subst (λ l. IsPermutation l (get_or q.places 0 d ∷ held rest)) (sym e) (IsPermutation-refl _))
+
+  pub least_said : LeastSays before same q (Some (get_or q.places 0 d))
+  least_said = (rest, first_out)
+
+  -- x takes the place of the first one, and all come in the order of h
+  pub first_replaced : (x : X) (h : List X) → IsPermutation (x ∷ drop 1 (held q)) h → ReplaceSays before same x q record { places = h ++ drop q.count q.places; count = q.count } (Some (get_or q.places 0 d))
+  first_replaced x h p =
+      let lh : length h ≡ q.count = omega (arith, length_permutation _ _ p, length-others, some) in
+      record {
+        left = rest;
+        taken = first_out;
+        refilled = record {
+          slots = omega (arith, length-append h (drop q.count q.places), length-drop q.count q.places, lh, fits, length-rest);
+          count = omega (arith, some);
+          holds = rw (held-rest, take_at h (drop q.count q.places) q.count lh) p;
+        };
+      }

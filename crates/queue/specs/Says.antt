@@ -1,4 +1,4 @@
--- What a put and a take answer, and what is held afterwards.
+-- What a put, a take, the least and a replacement of it answer, and what is held afterwards.
 use Rattle.std.specs.Prelude.{◌≡◌, ℕ, ◌+◌, ◌<◌, Bool, false, cond, List, [], ◌∷◌, length, Some, None, Ok, Err, MatchBool, Option, Result, nat_lt, slice_index_or}
 use Rattle.std.specs.List.{best_of, AllByRecursion}
 use Rattle.std.specs.List.Sorted.{IsPermutation}
@@ -53,3 +53,18 @@ TakeLeaves before q r (Some x) = Removed before x q r
 pub record TakeSays {X : Type 0} (before same : X → X → Bool) (q r : Slots X) (answer : Option X) : Type 0 where
   pub leaves : TakeLeaves before q r answer
   pub pinned : NoTies same (held q) → answer ≡ least before (held q)
+
+-- the least is what a take would answer
+abbrev pub LeastSays : {X : Type 0} → (X → X → Bool) → (X → X → Bool) → Slots X → Option X → Type 0
+LeastSays {X} before same q answer = (r : Slots X) × TakeSays before same q r answer
+
+-- x is held besides what a take left, where it removed an element
+abbrev pub Refilled : {X : Type 0} → X → Option X → Slots X → Slots X → Type 0
+Refilled x None q r = r ≡ q
+Refilled x (Some y) q r = Added x q r
+
+-- what a replacement of the least by x answers: what a take does, with x put into what that leaves
+pub record ReplaceSays {X : Type 0} (before same : X → X → Bool) (x : X) (q r : Slots X) (answer : Option X) : Type 0 where
+  pub left : Slots X
+  pub taken : TakeSays before same q left answer
+  pub refilled : Refilled x answer left r

@@ -77,7 +77,7 @@ fn sift_down<T: Rank>(heap: &mut [T], moving: T)
 
 impl<'a, T: Rank> Queue<'a, T> {
     ghost use Rattle.queue.specs.Slots.{slots_of};
-    ghost use Rattle.queue.specs.Says.{PutLeaves, given_back, TakeSays};
+    ghost use Rattle.queue.specs.Says.{PutLeaves, given_back, TakeSays, LeastSays, ReplaceSays};
 
     /// An empty queue in these slots.
     pub fn new(slots: &'a mut [T]) -> Queue<'a, T>
@@ -115,5 +115,30 @@ impl<'a, T: Rank> Queue<'a, T> {
             sift_down(&mut self.slots[..last], moving);
         }
         Some(first)
+    }
+
+    /// An element that none is before, which stays held, or none where none is held.
+    pub fn least(&self) -> Option<T>
+        ensures said { LeastSays T.before T.same (slots_of self.now) result }
+    {
+        if self.len == 0 {
+            return None;
+        }
+        Some(self.slots[0])
+    }
+
+    /// Removes an element that none is before, and adds `element`, in one way down the tree.
+    ///
+    /// Where none is held it answers none, and adds nothing.
+    pub fn replace_least(&mut self, element: T) -> Option<T>
+        ensures said { ReplaceSays T.before T.same element (slots_of self.old) (slots_of self.new) result }
+        ensures lender { self.new.slots.ghost_name ≡ self.old.slots.ghost_name }
+    {
+        if self.len == 0 {
+            return None;
+        }
+        let least = self.slots[0];
+        sift_down(&mut self.slots[..self.len], element);
+        Some(least)
     }
 }

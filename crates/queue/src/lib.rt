@@ -18,7 +18,9 @@
 //! let next = ticks.take();
 //! ```
 //!
-//! A put and a take look at no more elements than twice the levels of the tree, and nothing is taken from a heap of memory.
+//! `least` answers the next element and leaves it held, and `replace_least` takes it and puts another one in one way down the tree.
+//!
+//! A put, a take and a replacement look at no more elements than twice the levels of the tree, and nothing is taken from a heap of memory.
 #![tactic(auto)]
 
 mod fault;

@@ -85,3 +85,51 @@ fn jobs_come_out_as_from_a_plain_list(rt: HostRuntime) -> Result<(), Fail> {
     }
     Ok(())
 }
+
+// Removes the tick with the fewest units, then the earliest, from a plain list.
+fn take_least(list: &mut Vec<LoadedTick>) -> Option<LoadedTick> {
+    let least = list
+        .iter()
+        .copied()
+        .min_by_key(|tick| (tick.units, tick.tick))?;
+    list.retain(|tick| *tick != least);
+    Some(least)
+}
+
+// Puts, takes and replacements by chance, each answered as a plain list answers it. No tick comes twice.
+fn check_replaced(rt: &impl Abort, alloc: Global, seed: u32) -> Result<(), Fail> {
+    let mut slots = [LoadedTick { units: 0, tick: 0 }; 32];
+    let mut queue = TickQueue::new(&mut slots);
+    let mut list = Vec::new(alloc);
+    let mut number = seed;
+    for tick in 0..400u16 {
+        number = next(number);
+        let units = (number >> 24) % 6;
+        let added = LoadedTick { units, tick };
+        let kind = (number >> 16) % 8;
+        if kind < 3 && list.len() < 32 {
+            assert_eq!(rt; queue.put(added), Ok(()));
+            list.push(added)?;
+            continue;
+        }
+        let least = take_least(&mut list);
+        assert_eq!(rt; queue.least(), least);
+        if kind < 5 {
+            assert_eq!(rt; queue.take(), least);
+            continue;
+        }
+        assert_eq!(rt; queue.replace_least(added), least);
+        if least.is_some() {
+            list.push(added)?;
+        }
+    }
+    Ok(())
+}
+
+#[test]
+fn replaced_ticks_come_out_as_from_a_plain_list(rt: HostRuntime) -> Result<(), Fail> {
+    for seed in 0..100u32 {
+        check_replaced(&rt, rt.alloc(), seed)?;
+    }
+    Ok(())
+}

@@ -54,6 +54,25 @@ fn a_freed_slot_is_used_again(rt: HostRuntime) {
     assert_eq!(rt; queue.take(), None);
 }
 
+// A replacement adds nothing where none is held, and needs no free slot.
+#[test]
+fn a_replacement_keeps_the_count(rt: HostRuntime) {
+    let mut slots = [tick(0, 0); 2];
+    let mut queue = TickQueue::new(&mut slots);
+    assert_eq!(rt; queue.least(), None);
+    assert_eq!(rt; queue.replace_least(tick(1, 1)), None);
+    assert_eq!(rt; queue.least(), None);
+    assert_eq!(rt; queue.put(tick(1, 1)), Ok(()));
+    assert_eq!(rt; queue.replace_least(tick(3, 1)), Some(tick(1, 1)));
+    assert_eq!(rt; queue.put(tick(2, 2)), Ok(()));
+    assert_eq!(rt; queue.replace_least(tick(4, 2)), Some(tick(2, 2)));
+    assert_eq!(rt; queue.replace_least(tick(0, 0)), Some(tick(3, 1)));
+    assert_eq!(rt; queue.least(), Some(tick(0, 0)));
+    assert_eq!(rt; queue.take(), Some(tick(0, 0)));
+    assert_eq!(rt; queue.take(), Some(tick(4, 2)));
+    assert_eq!(rt; queue.take(), None);
+}
+
 // Two jobs of one rank both come out, each once, before a later one.
 #[test]
 fn jobs_of_one_rank_both_come(rt: HostRuntime) {
