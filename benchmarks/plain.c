@@ -40,9 +40,8 @@ static void put(struct heap *heap, struct tick moving) {
     heap->ticks[place] = moving;
 }
 
-static struct tick take(struct heap *heap) {
-    struct tick first = heap->ticks[0];
-    struct tick moving = heap->ticks[--heap->count];
+/* Puts `moving` in the place of the first one, which is not held any more. */
+static void replace_least(struct heap *heap, struct tick moving) {
     size_t place = 0;
     size_t child;
     while ((child = 2 * place + 1) < heap->count) {
@@ -54,7 +53,11 @@ static struct tick take(struct heap *heap) {
         place = child;
     }
     heap->ticks[place] = moving;
-    return first;
+}
+
+static void take(struct heap *heap) {
+    heap->count--;
+    replace_least(heap, heap->ticks[heap->count]);
 }
 
 /* The start of the hull of a window that starts at `from`: the last tick up to it that has no slack. */
@@ -79,13 +82,12 @@ static void place_job(struct plan *plan, const struct job *job) {
     for (size_t tick = start; tick < job->to; tick++)
         put(&heap, (struct tick){plan->loads[tick], (uint16_t)tick});
     for (unsigned unit = 0; unit < job->units; unit++) {
-        struct tick lowest;
-        do
-            lowest = take(&heap);
-        while (lowest.tick < start);
+        while (heap.ticks[0].tick < start)
+            take(&heap);
+        struct tick lowest = heap.ticks[0];
         place_unit(plan, job->from, lowest.tick);
         lowest.units++;
-        put(&heap, lowest);
+        replace_least(&heap, lowest);
         if (lowest.tick < job->from)
             start = hull_start(plan, job->from);
     }

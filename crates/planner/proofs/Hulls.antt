@@ -1,5 +1,5 @@
 -- A unit goes to the least loaded tick of its hull, and leaves a hull.
-use Rattle.std.proofs.Common.{◌≡◌, ℕ, ◌+◌, ◌-◌, ◌<◌, ◌≤◌, false, ◌&&◌, ◌||◌, eqb, ltb, List, [], ◌∷◌, length, sym, ap, subst, ◌∙◌, inl, inr, Option, Some, arith}
+use Rattle.std.proofs.Common.{◌≡◌, ℕ, ◌+◌, ◌-◌, ◌<◌, ◌≤◌, false, ◌&&◌, ◌||◌, eqb, ltb, List, [], ◌∷◌, length, sym, ap, subst, ◌∙◌, inl, inr, Option, None, Some, arith}
 use Rattle.std.specs.List.{AllByRecursion}
 use Rattle.std.proofs.ByRecursion.{all_shuffled}
 use Rattle.std.proofs.lemmas.Bool.Decides.{nat_tests}
@@ -7,7 +7,7 @@ use Rattle.std.proofs.lemmas.Bool.{cases_eq}
 use Rattle.queue.specs.declared.ticks.LoadedTick.{LoadedTick}
 use Rattle.queue.specs.Elements.{tick_before}
 use Rattle.queue.specs.Slots.{Slots, held}
-use Rattle.queue.specs.Says.{Added, TakeLeaves}
+use Rattle.queue.specs.Says.{Added, Removed, TakeLeaves}
 use Rattle.schedule.specs.Placing.{State, put, low_end, lowest_tick, spot, place_at, slack_after}
 use Rattle.schedule.proofs.Poised.{AtMost}
 use Rattle.schedule.proofs.Deadlines.{lowest_tick_is}
@@ -50,6 +50,25 @@ lowest_taken s lo to x xs queued le least =
     (all_both (Current s to) (λ y. tick_before y x ≡ false) (x ∷ xs) queued.current least) (omega (arith, queued.once v low.begun vt)) in
     let yr : y.units ≡ s v = yu ∙ ap s yv in
     sym (sym yv ∙ rank_same y.units y.tick x.units x.tick never (grind (arith, c.0)))
+
+alike : (x y : LoadedTick) → y.units ≡ x.units → y.tick ≡ x.tick → y ≡ x
+alike x y units tick =
+    let half : LoadedTick = record { units = x.units; tick = y.tick } in
+    let first : y ≡ half = ap (λ (u : ℕ). record { units = u; tick = y.tick }) units in
+    first ∙ ap (λ (t : ℕ). record { units = x.units; tick = t }) tick
+
+-- of the ticks that are held just one has none before it
+one_least : (q m n : Slots LoadedTick) (x y : LoadedTick) → Removed tick_before x q m → Removed tick_before y q n → y ≡ x
+one_least q m n x y one other =
+    let no_yx : tick_before y x ≡ false = (all_shuffled (λ z. tick_before z x ≡ false) (held q) (y ∷ held n) other.holds one.least).0 in
+    let no_xy : tick_before x y ≡ false = (all_shuffled (λ z. tick_before z y ≡ false) (held q) (x ∷ held m) one.holds other.least).0 in
+    alike x y (grind (arith, nat_tests)) (grind (arith, nat_tests))
+
+-- so whatever removes a tick that none is before answers the same
+pub same_answer : (q m n : Slots LoadedTick) {x : LoadedTick} {one : Option LoadedTick} (other : Option LoadedTick)
+    → TakeLeaves tick_before q m one → one ≡ Some x → TakeLeaves tick_before q n other → other ≡ Some x
+same_answer q m n {x = x} {one = one} None said is leaves = absurd (omega (arith, leaves.0, (take_removed tick_before q m one x said is).count))
+same_answer q m n {x = x} {one = one} (Some y) said is leaves = ap Some (one_least q m n x y (take_removed tick_before q m one x said is) leaves)
 
 -- x is taken out of the queue of a hull
 pub record Taken (st : State) (h : Hull) (r : Slots LoadedTick) (x : LoadedTick) : Type 0 where

@@ -59,15 +59,16 @@ impl<'a> Hull<'a> {
     {
         let ticks = &mut self.ticks;
         let lowest = loop {
-            let next = ticks.take().unwrap();
+            let next = ticks.least().unwrap();
             if usize::from(next.tick) >= self.start {
                 break next;
             }
+            ticks.take();
         };
         let tick = usize::from(lowest.tick);
         plan.place(self.from, tick);
         let units = lowest.units + 1;
-        ticks.put(LoadedTick { units, ..lowest }).unwrap();
+        ticks.replace_least(LoadedTick { units, ..lowest });
         if tick < self.from {
             self.start = plan.hull_start(self.from);
         }

@@ -14,7 +14,7 @@
 //! let settings = settings(&demands);
 //! ```
 //!
-//! `queue::TickQueue` holds the ticks of a hull. A unit costs a take and a put there, and a pass over the ticks between its place
+//! `queue::TickQueue` holds the ticks of a hull. A unit costs a replacement of the least there, and a pass over the ticks between its place
 //! and the start of its window. Nothing is taken from a heap of memory.
 //!
 //! Critical blocks come in rounds. Compressed time counts the free ticks only, and at first all ticks are free. Each round searches

@@ -4,22 +4,24 @@ use Rattle.queue.specs.Elements.{tick_before}
 use Rattle.schedule.specs.Placing.{place_at}
 use Rattle.planner.specs.Queued.{Queued}
 use Rattle.planner.specs.Plan.{state_of}
-use Rattle.planner.proofs.Slots.{take_some, put_added}
-use Rattle.planner.proofs.Hulls.{holds_ticks, taken, dropped, in_sight, is_spot, slack_before, queued_after, queued_risen, start_stays}
+use Rattle.planner.proofs.Slots.{take_some, refill_added}
+use Rattle.planner.proofs.Hulls.{holds_ticks, same_answer, taken, dropped, in_sight, is_spot, slack_before, queued_after, queued_risen, start_stays}
 use Rattle.planner.proofs.hull.Hull.place_unit.Goals as goal
 
 pub unwrap-next-requires : goal.unwrap-next-requires
 unwrap-next-requires c =
     let q = slots_of c.loop-next.ticks in
-    take_some tick_before q (slots_of c.take.new.self) c.take.result (holds_ticks c.requires.hull q c.loop-next.invariant) c.take.ensures.said.leaves
+    take_some tick_before q c.least.ensures.said.0 c.least.result (holds_ticks c.requires.hull q c.loop-next.invariant) c.least.ensures.said.1.leaves
 
 pub loop-next-preserved : goal.loop-next-preserved
 loop-next-preserved c =
-    dropped (taken (slots_of c.loop-next.ticks) c.requires.hull c.loop-next.ticks.fits c.loop-next.invariant c.take.ensures.said.leaves c.unwrap-next.ensures) (omega (arith, c.from.ensures))
+    let q = slots_of c.loop-next.ticks in
+    let same = same_answer q c.least.ensures.said.0 (slots_of c.take.new.self) c.take.result c.least.ensures.said.1.leaves c.unwrap-next.ensures c.take.ensures.said.leaves in
+    dropped (taken q c.requires.hull c.loop-next.ticks.fits c.loop-next.invariant c.take.ensures.said.leaves same) (omega (arith, c.from.ensures))
 
 pub place-requires : goal.place-requires
 place-requires c =
-    let t = taken (slots_of c.loop-next.ticks) c.requires.hull c.loop-next.ticks.fits c.loop-next.invariant c.take.ensures.said.leaves c.unwrap-next.ensures in
+    let t = taken (slots_of c.loop-next.ticks) c.requires.hull c.loop-next.ticks.fits c.loop-next.invariant c.least.ensures.said.1.leaves c.unwrap-next.ensures in
     record {
       window = search rules;
       tick = omega (arith, in_sight t, c.from-tick.ensures);
@@ -29,27 +31,33 @@ place-requires c =
 
 pub returns-then-tick-self : goal.returns-then-tick-self
 returns-then-tick-self c =
-    let t = taken (slots_of c.loop-next.ticks) c.requires.hull c.loop-next.ticks.fits c.loop-next.invariant c.take.ensures.said.leaves c.unwrap-next.ensures in
+    let q = slots_of c.loop-next.ticks in
+    let said = c.replace_least.ensures.said in
+    let same = same_answer q c.least.ensures.said.0 said.left c.replace_least.result c.least.ensures.said.1.leaves c.unwrap-next.ensures said.taken.leaves in
+    let t = taken q c.requires.hull c.loop-next.ticks.fits c.loop-next.invariant said.taken.leaves same in
     let late : c.args.self.now.start ≤ c.unwrap-next.result.tick = omega (arith, c.from.ensures) in
     let place = λ (u : ℕ). place_at c.args.self.now.from u (state_of c.args.plan.now) in
     let placed = c.place.ensures ∙ ap place c.from-tick.ensures in
-    let added = put_added _ (slots_of c.take.new.self) (slots_of c.put.new.self) t.room c.put.ensures.after in
+    let added = refill_added _ said.left (slots_of c.replace_least.new.self) c.replace_least.result _ said.refilled same in
     record {
       placed = placed ∙ ap place (is_spot t late);
       hull = record {
         start = c.hull_start-self.ensures;
-        queued = subst (λ lo. Queued (state_of c.place.new.self).settings lo c.args.self.now.to (held (slots_of c.put.new.self))) (sym c.hull_start-self.ensures) (queued_risen t late placed added);
+        queued = subst (λ lo. Queued (state_of c.place.new.self).settings lo c.args.self.now.to (held (slots_of c.replace_least.new.self))) (sym c.hull_start-self.ensures) (queued_risen t late placed added);
       };
       window = (refl, refl);
     }
 
 pub returns-else-tick-self : goal.returns-else-tick-self
 returns-else-tick-self c =
-    let t = taken (slots_of c.loop-next.ticks) c.requires.hull c.loop-next.ticks.fits c.loop-next.invariant c.take.ensures.said.leaves c.unwrap-next.ensures in
+    let q = slots_of c.loop-next.ticks in
+    let said = c.replace_least.ensures.said in
+    let same = same_answer q c.least.ensures.said.0 said.left c.replace_least.result c.least.ensures.said.1.leaves c.unwrap-next.ensures said.taken.leaves in
+    let t = taken q c.requires.hull c.loop-next.ticks.fits c.loop-next.invariant said.taken.leaves same in
     let late : c.args.self.now.start ≤ c.unwrap-next.result.tick = omega (arith, c.from.ensures) in
     let place = λ (u : ℕ). place_at c.args.self.now.from u (state_of c.args.plan.now) in
     let placed = c.place.ensures ∙ ap place c.from-tick.ensures in
-    let added = put_added _ (slots_of c.take.new.self) (slots_of c.put.new.self) t.room c.put.ensures.after in
+    let added = refill_added _ said.left (slots_of c.replace_least.new.self) c.replace_least.result _ said.refilled same in
     record {
       placed = placed ∙ ap place (is_spot t late);
       hull = record { start = start_stays t late placed added (omega (arith, c.from-tick.ensures)); queued = queued_after t late placed added };
