@@ -8,4 +8,4 @@ pub returns-clause-said : goal.returns-clause-said
 returns-clause-said g c =
     let q = c.args.self.now in
     let o = ranks g.met.T.Rank.one g.met.T.Rank.ordered g.met.T.Rank.tied in
-    first_replaced g.T.Rank.same g.met.T.Rank.one o (slots_of q) c.index-self-0.result q.fits q.ordered (omega (arith, c.if-self-eq0.false)) c.args.element c.sift_down.new.heap c.sift_down.ensures.holds
+    first_replaced g.T.Rank.same g.met.T.Rank.one o (slots_of q) _ q.fits q.ordered (omega (arith, c.if-self-eq0.false)) c.args.element c.sift_down.new.heap c.sift_down.ensures.holds
