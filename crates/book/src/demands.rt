@@ -37,5 +37,7 @@ pub(super) fn demands_of<'a>(
     for (place, job) in jobs.iter().enumerate() {
         places[place] = job.demand(now);
     }
-    Demands::new(&places[..jobs.len()]).unwrap()
+    Demands {
+        list: &places[..jobs.len()],
+    }
 }

@@ -5,10 +5,10 @@ use Rattle.book.specs.Demands.{demands}
 use Rattle.book.proofs.Planning.{plannable-demands}
 use Rattle.book.proofs.demands.demands_of.Goals as goal
 
-pub unwrap-requires : goal.unwrap-requires
-unwrap-requires c =
+pub invariant_of-result : goal.invariant_of-result
+invariant_of-result c =
     let js = c.args.jobs.now in
     let done : c.loop-place.place ≡ length js = omega arith in
     let all : take (length js) c.loop-place.places ≡ demands c.args.now js =
     subst (λ k. take k c.loop-place.places ≡ demands c.args.now (take k js)) done c.loop-place.invariant ∙ ap (demands c.args.now) (take-length js) in
-    c.new.ensures.some.1 (subst Plannable (sym all) (plannable-demands c.args.now js c.requires.few c.requires.in_order c.requires.open))
+    subst Plannable (sym all) (plannable-demands c.args.now js c.requires.few c.requires.in_order c.requires.open)
