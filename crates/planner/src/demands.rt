@@ -105,6 +105,7 @@ impl<'a> Demands<'a> {
             None
         }
     }
+
     /// The work of the demands whose windows lie inside the interval from low to high.
     pub fn work_inside(&self, low: u16, high: u16) -> u32
         ensures { result ≡ work self.now low high }
