@@ -75,7 +75,6 @@ pub record Taken (st : State) (h : Hull) (r : Slots LoadedTick) (x : LoadedTick)
   pub hull : IsHull st h
   pub queued : Queued st.settings h.start h.to (x ∷ held r)
   pub least : AllByRecursion (λ y. tick_before y x ≡ false) (x ∷ held r)
-  pub room : r.count < length r.places
 
 pub taken : {st : State} {h : Hull} (q : Slots LoadedTick) {r : Slots LoadedTick} {answer : Option LoadedTick} {x : LoadedTick} → IsHull st h → q.count ≤ length q.places
     → Queued st.settings h.start h.to (held q) → TakeLeaves tick_before q r answer → answer ≡ Some x → Taken st h r x
@@ -85,7 +84,6 @@ taken {st = st} {h = h} q {r = r} {answer = answer} {x = x} hull fits queued sai
       hull = hull;
       queued = queued_permuted st.settings h.start h.to (held q) (x ∷ held r) removed.holds queued;
       least = all_shuffled (λ y. tick_before y x ≡ false) (held q) (x ∷ held r) removed.holds removed.least;
-      room = omega (arith, removed.slots, removed.count);
     }
 
 module _ {st : State} {h : Hull} {r : Slots LoadedTick} {x : LoadedTick} (t : Taken st h r x) where
