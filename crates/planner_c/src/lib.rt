@@ -96,6 +96,7 @@ impl Blocks {
     // Writes these blocks to the first places.
     fn write(&mut self, blocks: &[planner::Block])
         requires { length blocks.now ≤ 64 }
+        ensures count { self.new.count ≡ length blocks.now }
         ensures blocks { found_blocks self.new ≡ blocks.now }
         ensures rest { drop self.new.count self.new.places ≡ drop self.new.count self.old.places }
     {
@@ -121,6 +122,7 @@ pub extern "C" fn planner_blocks(jobs: &[Job], found: &mut Blocks) -> u32
     ensures many { result ≡ 1 ↔ 64 < length jobs.now }
     ensures planned { result ≡ 0 ↔ Plannable (demands jobs.now) }
     ensures otherwise { result ≤ 2 }
+    ensures count { result ≡ 0 → found.new.count ≡ length (critical_blocks (demands jobs.now)) }
     ensures blocks { result ≡ 0 → found_blocks found.new ≡ critical_blocks (demands jobs.now) }
     ensures rest { result ≡ 0 → drop found.new.count found.new.places ≡ drop found.new.count found.old.places }
     ensures critical { result ≡ 0 → Blocked horizon (open_demands (demands jobs.now)) }
