@@ -13,7 +13,6 @@ use Rattle.std.proofs.lemmas.List.Sorted.{IsPermutation-sym, All-permutation, su
 use Rattle.schedule.specs.Demands.{Sound}
 use Rattle.schedule.specs.Work.{inside, work, Fits}
 use Rattle.schedule.specs.Sharing.{Does}
-use Rattle.schedule.specs.Draws.{drawn}
 use Rattle.schedule.specs.Settled.{Settled}
 use Rattle.schedule.specs.InForce.{horizon, Same}
 use Rattle.schedule.proofs.SettledLaws.{settled_same}
@@ -75,10 +74,6 @@ in_force_same b t lt =
     ∙ get_or_append_left (map (settings_of b) (range_with_len 0 horizon)) (drop horizon room) 0 t (omega (arith, length-map-range_with_len (settings_of b) 0 horizon))
     ∙ first
 
--- so they draw as much
-drawn_same : (n : ℕ) (D s q : ℕ → ℕ) → Same n s q → drawn n D s ≡ drawn n D q
-drawn_same n D s q same = upto_same (λ t. D (s t)) (λ t. D (q t)) n (λ t lt. ap D (same t lt))
-
 -- the settings in force do the open work, within the top, and no others that do it draw less
 cheapest : (t : Tally) (b : View) → Agrees t b → Cheapest t (in_force b)
 cheapest t b agrees =
@@ -99,7 +94,7 @@ cheapest t b agrees =
           does_any_order b.now (open_jobs t.rows) b.jobs q open_at agrees.same (subst (λ now. Does horizon (demands now (open_jobs t.rows)) q) agrees.now does) in
           omega (
             arith,
-            drawn_same horizon D (in_force b) (settings_of b) same,
+            upto_same (λ t. D (in_force b t)) (λ t. D (settings_of b t)) horizon (λ t lt. ap D (same t lt)),
             theory.optimum.cheapest (demands b.now b.jobs) q book_does 255 (λ k lt. omega (arith, up k lt, agrees.top, agrees.lawful.well_formed.top_within)) D laws.0 laws.1,
           );
     }
