@@ -10,62 +10,62 @@ use Rattle.schedule.specs.Demands.{Demand}
 use Rattle.schedule.specs.InForce.{horizon}
 use Rattle.schedule.specs.Blocks.{blocks, Block as Critical}
 use Rattle.schedule.specs.Theory.{Blocked}
-use Rattle.planner.specs.declared.blocks.Block.{Block as Told}
-use Rattle.planner.specs.Blocks.{told_block, open_demands, critical_blocks}
+use Rattle.planner.specs.declared.blocks.RelativeBlock.{RelativeBlock as Told}
+use Rattle.planner.specs.Blocks.{block_of, open_demands, critical_blocks}
 use Rattle.book.specs.declared.job.Job.{Job}
 use Rattle.book.specs.declared.blocks.Block.{Block}
 use Rattle.book.specs.Demands.{demands}
-use Rattle.book.specs.Book.{View, OpenAt}
-use Rattle.book.specs.Blocks.{told_block as absolute_block, from_now, blocks_of, blocked}
+use Rattle.book.specs.Book.{View, IsOpenAt}
+use Rattle.book.specs.Blocks.{told_block as absolute_block, block_in_time, blocks_of, blocks_outcome}
 
 -- all open jobs have work left
-open-demands : (now : ℕ) (js : List Job) → All (OpenAt now) js → open_demands (demands now js) ≡ demands now js
+open-demands : (now : ℕ) (js : List Job) → All (IsOpenAt now) js → open_demands (demands now js) ≡ demands now js
 open-demands now [] open_at = refl
 open-demands now (j ∷ js) open_at =
-    let here = All-head (OpenAt now) j js open_at in
-    let rest = open-demands now js (All-tail (OpenAt now) j js open_at) in
+    let here = All-head (IsOpenAt now) j js open_at in
+    let rest = open-demands now js (All-tail (IsOpenAt now) j js open_at) in
     let some = here.work_left in
     grind (arith, nat_tests)
 
-from_now-told : (now : ℕ) (cs : List Critical) → map (from_now now) (map told_block cs) ≡ map (absolute_block now) cs
-from_now-told now [] = refl
-from_now-told now (c ∷ cs) = ap (λ bs. absolute_block now c ∷ bs) (from_now-told now cs)
+block_in_time-told : (now : ℕ) (cs : List Critical) → map (block_in_time now) (map block_of cs) ≡ map (absolute_block now) cs
+block_in_time-told now [] = refl
+block_in_time-told now (c ∷ cs) = ap (λ bs. absolute_block now c ∷ bs) (block_in_time-told now cs)
 
 -- the blocks of the planner, counted from now, are those of the book
-pub blocks_are : (b : View) (ds : List Demand) (items : List Told) → All (OpenAt b.now) b.jobs → ds ≡ demands b.now b.jobs → items ≡ critical_blocks ds → map (from_now b.now) items ≡ blocks_of b
+pub blocks_are : (b : View) (ds : List Demand) (items : List Told) → All (IsOpenAt b.now) b.jobs → ds ≡ demands b.now b.jobs → items ≡ critical_blocks ds → map (block_in_time b.now) items ≡ blocks_of b
 blocks_are b ds items open_at of_jobs of_demands =
-    ap (map (from_now b.now)) of_demands
-    ∙ from_now-told b.now (blocks horizon (open_demands ds))
+    ap (map (block_in_time b.now)) of_demands
+    ∙ block_in_time-told b.now (blocks horizon (open_demands ds))
     ∙ ap (λ es. map (absolute_block b.now) (blocks horizon es)) (ap open_demands of_jobs ∙ open-demands b.now b.jobs open_at)
 
 -- and what is said of them holds of the book's demands
-pub blocked_open : (b : View) (ds : List Demand) → All (OpenAt b.now) b.jobs → ds ≡ demands b.now b.jobs → Blocked horizon (open_demands ds) → Blocked horizon (demands b.now b.jobs)
+pub blocked_open : (b : View) (ds : List Demand) → All (IsOpenAt b.now) b.jobs → ds ≡ demands b.now b.jobs → Blocked horizon (open_demands ds) → Blocked horizon (demands b.now b.jobs)
 blocked_open b ds open_at of_jobs = subst (Blocked horizon) (ap open_demands of_jobs ∙ open-demands b.now b.jobs open_at)
 
 -- they are written into the first places of a list, one after the other
 module _ (now : ℕ) (items : List Told) (list : List Block) (room : length items ≤ length list) where
-  pub block_written : (i : ℕ) (d : Told) → i < length items → set (paste list 0 (map (from_now now) items) i) i (from_now now (get_or items i d)) ≡ paste list 0 (map (from_now now) items) (i + 1)
+  pub block_written : (i : ℕ) (d : Told) → i < length items → set (paste list 0 (map (block_in_time now) items) i) i (block_in_time now (get_or items i d)) ≡ paste list 0 (map (block_in_time now) items) (i + 1)
   block_written i d lt =
-      let size = length-map items (from_now now) in
-      let e : get_or (map (from_now now) items) i (from_now now d) ≡ from_now now (get_or items i d) = get_or-map (from_now now) items i d (from_now now d) lt in
-      subst (λ x. set (paste list 0 (map (from_now now) items) i) i x ≡ paste list 0 (map (from_now now) items) (i + 1)) e
-      (subst (λ k. set (paste list 0 (map (from_now now) items) i) k (get_or (map (from_now now) items) i (from_now now d)) ≡ paste list 0 (map (from_now now) items) (i + 1)) (omega arith)
-      (paste_more list 0 (map (from_now now) items) i (from_now now d) (omega arith) (omega (arith, size))))
+      let size = length-map items (block_in_time now) in
+      let e : get_or (map (block_in_time now) items) i (block_in_time now d) ≡ block_in_time now (get_or items i d) = get_or-map (block_in_time now) items i d (block_in_time now d) lt in
+      subst (λ x. set (paste list 0 (map (block_in_time now) items) i) i x ≡ paste list 0 (map (block_in_time now) items) (i + 1)) e
+      (subst (λ k. set (paste list 0 (map (block_in_time now) items) i) k (get_or (map (block_in_time now) items) i (block_in_time now d)) ≡ paste list 0 (map (block_in_time now) items) (i + 1)) (omega arith)
+      (paste_more list 0 (map (block_in_time now) items) i (block_in_time now d) (omega arith) (omega (arith, size))))
 
-  pub all_written : (i : ℕ) → i ≡ length items → paste list 0 (map (from_now now) items) i ≡ map (from_now now) items ++ drop (length items) list
+  pub all_written : (i : ℕ) → i ≡ length items → paste list 0 (map (block_in_time now) items) i ≡ map (block_in_time now) items ++ drop (length items) list
   all_written i done =
-      let size = length-map items (from_now now) in
-      paste_all list 0 (map (from_now now) items) i (omega (arith, size)) ∙ ap (λ k. map (from_now now) items ++ drop k list) (omega arith)
+      let size = length-map items (block_in_time now) in
+      paste_all list 0 (map (block_in_time now) items) i (omega (arith, size)) ∙ ap (λ k. map (block_in_time now) items ++ drop k list) (omega arith)
 
 -- a list with enough places is not refused
 module _ (b : View) (list : List Block) (room : 64 ≤ length list) where
-  blocked_none : blocked b list ≡ record { answer = Ok (length (blocks_of b)); list = blocks_of b ++ drop (length (blocks_of b)) list }
+  blocked_none : blocks_outcome b list ≡ record { answer = Ok (length (blocks_of b)); list = blocks_of b ++ drop (length (blocks_of b)) list }
   blocked_none = let enough : ltb (length list) 64 ≡ false = grind (arith, nat_tests) in rw enough refl
 
   -- the planner's blocks are written
-  module _ (items : List Told) (are : map (from_now b.now) items ≡ blocks_of b) where
-    pub written_answer : Ok (length items) ≡ (blocked b list).answer
-    written_answer = rw (blocked_none, ← are, length-map items (from_now b.now)) refl
+  module _ (items : List Told) (are : map (block_in_time b.now) items ≡ blocks_of b) where
+    pub written_answer : Ok (length items) ≡ (blocks_outcome b list).answer
+    written_answer = rw (blocked_none, ← are, length-map items (block_in_time b.now)) refl
 
-    pub written_list : map (from_now b.now) items ++ drop (length items) list ≡ (blocked b list).list
-    written_list = rw (blocked_none, ← are, length-map items (from_now b.now)) refl
+    pub written_list : map (block_in_time b.now) items ++ drop (length items) list ≡ (blocks_outcome b list).list
+    written_list = rw (blocked_none, ← are, length-map items (block_in_time b.now)) refl

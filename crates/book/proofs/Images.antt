@@ -20,11 +20,11 @@ use Rattle.layout.specs.BigEndian.{number, bytes}
 use Rattle.layout.specs.Layout.{arrival_of, work_of}
 use Rattle.book.specs.declared.job.Job.{Job}
 use Rattle.book.specs.declared.fault.BookFault.TheVariants.{Image}
-use Rattle.book.specs.Jobs.{is_before, is_open}
+use Rattle.book.specs.Jobs.{is_before, is_ticket_open}
 use Rattle.book.specs.Demands.{demands}
-use Rattle.book.specs.Book.{View, OpenAt, InOrder, WellFormed, Lawful}
-use Rattle.book.specs.Calls.{outcome, overload_in}
-use Rattle.book.specs.Images.{clock_record, job_record, blank_record, record_in, job_in, later_records, is_job_record, book_in, can_be_open, is_clock, is_next_job, not_blank, wrong_later, wrong_record, overload_record, length_fault, load_fault, loaded}
+use Rattle.book.specs.Book.{View, IsOpenAt, IsInOrder, IsWellFormed, IsLawful}
+use Rattle.book.specs.Calls.{outcome, first_overload_of}
+use Rattle.book.specs.Images.{clock_record, job_record, blank_record, record_in, job_in, later_records, is_job_record, book_in, can_be_open, is_clock, is_next_job, first_not_blank, first_wrong_later, first_wrong, overload_record, length_fault, load_fault, load_outcome}
 use Rattle.book.proofs.DemandFacts.{sound-demands}
 use Rattle.book.proofs.Offering.{others}
 
@@ -36,17 +36,17 @@ bytes_fit (suc k) n = let rest = bytes_fit k (n / 256) in let push = number_push
 -- jobs that can be open together
 pub record Standing (now : ℕ) (js : List Job) : Type 0 where
   pub apart : AllPairs (λ j k. j.ticket ≢ k.ticket) js
-  pub order : InOrder js
-  pub open_at : All (OpenAt now) js
+  pub order : IsInOrder js
+  pub open_at : All (IsOpenAt now) js
 
 -- a job that can be open besides others, and is served after them
 pub record Follows (now : ℕ) (before : List Job) (j : Job) : Type 0 where
-  pub open_at : OpenAt now j
+  pub open_at : IsOpenAt now j
   pub after : All (λ k. is_before k j ≡ true) before
-  pub closed : is_open j.ticket before ≡ false
+  pub closed : is_ticket_open j.ticket before ≡ false
 
 -- the test of a job that can be open
-pub open_from_test : (now : ℕ) (j : Job) → can_be_open now j ≡ true → OpenAt now j
+pub open_from_test : (now : ℕ) (j : Job) → can_be_open now j ≡ true → IsOpenAt now j
 open_from_test now j e = record {
   some_ticket = grind (arith, nat_tests);
   work_left = grind (arith, nat_tests);
@@ -66,18 +66,18 @@ pub next_job_parts : (now : ℕ) (before : List Job) (r : List ℕ) → is_next_
 next_job_parts now before r e =
     let j = job_in r in
     let in_order : Bool = list_all (λ k. is_before k j) before in
-    let other : Bool = not (is_open j.ticket before) in
+    let other : Bool = not (is_ticket_open j.ticket before) in
     let form = and_parts (bytes_eq r (job_record j)) (can_be_open now j && (in_order && other)) e in
     let fields = and_parts (can_be_open now j) (in_order && other) form.1 in
     let rest = and_parts in_order other fields.1 in
-    ((bytes_eq-Decides r (job_record j)).0 form.0, record { open_at = open_from_test now j fields.0; after = (all_before j before).0 rest.0; closed = not-true (is_open j.ticket before) rest.1 })
+    ((bytes_eq-Decides r (job_record j)).0 form.0, record { open_at = open_from_test now j fields.0; after = (all_before j before).0 rest.0; closed = not-true (is_ticket_open j.ticket before) rest.1 })
 
 -- one more job
 pub standing_push : (now : ℕ) (before : List Job) (j : Job) → Standing now before → Follows now before j → Standing now (before ++ (j ∷ []))
 standing_push now before j s f = record {
   apart = all_pairs_push (λ i k. i.ticket ≢ k.ticket) before j s.apart (λ k d lt. others j.ticket before f.closed k d lt);
   order = all_pairs_push (λ i k. is_before i k ≡ true) before j s.order (λ k d lt. f.after k d lt);
-  open_at = All-push (OpenAt now) before j s.open_at f.open_at;
+  open_at = All-push (IsOpenAt now) before j s.open_at f.open_at;
 }
 
 -- the jobs that records say, up to the first that stands for none
@@ -101,24 +101,24 @@ position_here : {X : Type 0} (p : X → Bool) (x : X) (xs : List X) → p x ≡ 
 position_here p x xs e = grind (arith, nat_tests)
 
 -- where all records are blank, the first is
-pub first_blank : (k : ℕ) (r : List ℕ) (rs : List (List ℕ)) → not_blank k (r ∷ rs) ≡ None → r ≡ blank_record
+pub first_blank : (k : ℕ) (r : List ℕ) (rs : List (List ℕ)) → first_not_blank k (r ∷ rs) ≡ None → r ≡ blank_record
 first_blank k r rs e = elim (cases_Bool (bytes_eq r blank_record)) [
   | inl t ↦ (bytes_eq-Decides r blank_record).0 t
-  | inr f ↦ absurd (let here = position_here (λ r. not (bytes_eq r blank_record)) r rs (ap not f) in let some : not_blank k (r ∷ rs) ≡ Some (k + 0) = ap (option_map (λ i. k + i)) here in cc)
+  | inr f ↦ absurd (let here = position_here (λ r. not (bytes_eq r blank_record)) r rs (ap not f) in let some : first_not_blank k (r ∷ rs) ≡ Some (k + 0) = ap (option_map (λ i. k + i)) here in cc)
 ]
 
 -- where no record is wrong, the jobs that they say can be open together with those before
-pub standing_later : (now : ℕ) (before : List Job) (k : ℕ) (rs : List (List ℕ)) → Standing now before → wrong_later now before k rs ≡ None → Standing now (before ++ jobs_of rs)
+pub standing_later : (now : ℕ) (before : List Job) (k : ℕ) (rs : List (List ℕ)) → Standing now before → first_wrong_later now before k rs ≡ None → Standing now (before ++ jobs_of rs)
 standing_later now before k [] s e = subst (Standing now) (sym (append-nil before)) s
 standing_later now before k (r ∷ rs) s e = elim (cases_Bool (is_next_job now before r)) [
   | inl t ↦
       let parts = next_job_parts now before r t in
       let kind : is_job_record r ≡ true = ap is_job_record parts.0 in
-      let rest : wrong_later now (before ++ (job_in r ∷ [])) (k + 1) rs ≡ None = sym (cond-true (is_next_job now before r) (wrong_later now (before ++ (job_in r ∷ [])) (k + 1) rs) (not_blank k (r ∷ rs)) t) ∙ e in
+      let rest : first_wrong_later now (before ++ (job_in r ∷ [])) (k + 1) rs ≡ None = sym (cond-true (is_next_job now before r) (first_wrong_later now (before ++ (job_in r ∷ [])) (k + 1) rs) (first_not_blank k (r ∷ rs)) t) ∙ e in
       let all = standing_later now (before ++ (job_in r ∷ [])) (k + 1) rs (standing_push now before (job_in r) s parts.1) rest in
       subst (Standing now) (append_assoc before (job_in r ∷ []) (jobs_of rs) ∙ ap (λ js. before ++ js) (sym (jobs_of_more r rs kind))) all
   | inr f ↦
-      let rest : not_blank k (r ∷ rs) ≡ None = sym (cond-false (is_next_job now before r) (wrong_later now (before ++ (job_in r ∷ [])) (k + 1) rs) (not_blank k (r ∷ rs)) f) ∙ e in
+      let rest : first_not_blank k (r ∷ rs) ≡ None = sym (cond-false (is_next_job now before r) (first_wrong_later now (before ++ (job_in r ∷ [])) (k + 1) rs) (first_not_blank k (r ∷ rs)) f) ∙ e in
       let kind : is_job_record r ≡ false = ap is_job_record (first_blank k r rs rest) in
       subst (Standing now) (sym (append-nil before) ∙ ap (λ js. before ++ js) (sym (jobs_of_none r rs kind))) s
 ]
@@ -144,7 +144,7 @@ pub none_standing : (now : ℕ) → Standing now []
 none_standing now = record { apart = λ a b d lt le. absurd (omega arith); order = λ a b d lt le. absurd (omega arith); open_at = λ k d lt. absurd (omega arith) }
 
 -- a record of now and the top, and at most 64 jobs that can be open together
-pub wellformed_jobs : (r : List ℕ) (js : List Job) → length js ≤ 64 → Clocked r → Standing (arrival_of r) js → WellFormed (record { now = arrival_of r; top = work_of r; jobs = js })
+pub wellformed_jobs : (r : List ℕ) (js : List Job) → length js ≤ 64 → Clocked r → Standing (arrival_of r) js → IsWellFormed (record { now = arrival_of r; top = work_of r; jobs = js })
 wellformed_jobs r js few c s =
     let now : arrival_of r ≡ number (bytes 6 (arrival_of r)) = ap arrival_of c.form in
     record {
@@ -158,23 +158,23 @@ wellformed_jobs r js few c s =
     }
 
 -- where no record is wrong, the book that they say is well-formed
-pub wellformed_records : (r : List ℕ) (rs : List (List ℕ)) → length rs ≤ 64 → is_clock r ≡ true → wrong_later (arrival_of r) [] 1 rs ≡ None → WellFormed (book_of r rs)
+pub wellformed_records : (r : List ℕ) (rs : List (List ℕ)) → length rs ≤ 64 → is_clock r ≡ true → first_wrong_later (arrival_of r) [] 1 rs ≡ None → IsWellFormed (book_of r rs)
 wellformed_records r rs few t e = wellformed_jobs r (jobs_of rs) (omega (arith, jobs_of_few rs)) (clock_parts r t) (standing_later (arrival_of r) [] 1 rs (none_standing (arrival_of r)) e)
 
 -- and so is that of an image
-pub wellformed_in : (list : List ℕ) → wrong_record list ≡ None → WellFormed (book_in list)
+pub wellformed_in : (list : List ℕ) → first_wrong list ≡ None → IsWellFormed (book_in list)
 wellformed_in list e = go (is_clock (record_in list 0)) refl e
   where
-    go : (t : Bool) → is_clock (record_in list 0) ≡ t → cond t (wrong_later (arrival_of (record_in list 0)) [] 1 (later_records list)) (Some 0) ≡ None → WellFormed (book_in list)
+    go : (t : Bool) → is_clock (record_in list 0) ≡ t → cond t (first_wrong_later (arrival_of (record_in list 0)) [] 1 (later_records list)) (Some 0) ≡ None → IsWellFormed (book_in list)
     go true t none = wellformed_records (record_in list 0) (later_records list) (omega (arith, length-map-range_with_len (record_in list) 1 64)) t none
     go false t none = absurd (cc)
 
 -- what the search for overload tells of a well-formed book
-pub searched : (b : View) → WellFormed b → Searched horizon (demands b.now b.jobs) b.top (overload_in b)
+pub searched : (b : View) → IsWellFormed b → Searched horizon (demands b.now b.jobs) b.top (first_overload_of b)
 searched b w = theory.enough.searched horizon b.top (demands b.now b.jobs) (sound-demands horizon b.now b.jobs theory.ticks w.jobs_open)
 
 -- a well-formed book in which it finds none is lawful
-pub lawful_from : (b : View) → WellFormed b → overload_in b ≡ None → Lawful b
+pub lawful_from : (b : View) → IsWellFormed b → first_overload_of b ≡ None → IsLawful b
 lawful_from b w none = record {
   well_formed = w;
   none_overloaded = subst (Searched horizon (demands b.now b.jobs) b.top) none (searched b w);
@@ -192,15 +192,15 @@ map_none f (Some x) e = absurd (cc)
 -- what an image is that is loaded
 pub record Loadable (list : List ℕ) : Type 0 where
   pub long : length_fault list ≡ None
-  pub none_wrong : wrong_record list ≡ None
-  pub none_over : overload_in (book_in list) ≡ None
+  pub none_wrong : first_wrong list ≡ None
+  pub none_over : first_overload_of (book_in list) ≡ None
 
 -- it has no fault
 pub loadable : (list : List ℕ) → load_fault list ≡ None → Loadable list
 loadable list e =
-    let length = or_none (length_fault list) (option_map Image (option_or (wrong_record list) (overload_record (book_in list)))) e in
-    let records = or_none (wrong_record list) (overload_record (book_in list)) (map_none Image (option_or (wrong_record list) (overload_record (book_in list))) length.1) in
-    record { long = length.0; none_wrong = records.0; none_over = map_none (λ ab. 65) (overload_in (book_in list)) records.1 }
+    let length = or_none (length_fault list) (option_map Image (option_or (first_wrong list) (overload_record (book_in list)))) e in
+    let records = or_none (first_wrong list) (overload_record (book_in list)) (map_none Image (option_or (first_wrong list) (overload_record (book_in list))) length.1) in
+    record { long = length.0; none_wrong = records.0; none_over = map_none (λ ab. 65) (first_overload_of (book_in list)) records.1 }
 
 -- accepted: there is no fault
 answered : (f : Option _) (before after : View) → (outcome f before after).answer ≡ Ok tt → f ≡ None
@@ -208,11 +208,11 @@ answered None before after e = refl
 answered (Some fault) before after e = absurd (cc)
 
 -- a loaded book is lawful
-pub lawful_loaded : (b : View) (list : List ℕ) → (loaded b list).answer ≡ Ok tt → Lawful (book_in list)
+pub lawful_loaded : (b : View) (list : List ℕ) → (load_outcome b list).answer ≡ Ok tt → IsLawful (book_in list)
 lawful_loaded b list e =
     let l = loadable list (answered (load_fault list) b (book_in list) e) in
     lawful_from (book_in list) (wellformed_in list l.none_wrong) l.none_over
 
 -- and it is the one that the image says
-pub loaded_book : (b : View) (list : List ℕ) → (loaded b list).answer ≡ Ok tt → (loaded b list).book ≡ book_in list
+pub loaded_book : (b : View) (list : List ℕ) → (load_outcome b list).answer ≡ Ok tt → (load_outcome b list).book ≡ book_in list
 loaded_book b list e = ap (λ f. (outcome f b (book_in list)).book) (answered (load_fault list) b (book_in list) e)

@@ -10,7 +10,7 @@ use Rattle.std.proofs.lemmas.List.Sums.{prefix_len-le-length}
 use Rattle.book.specs.declared.job.Job.{Job}
 use Rattle.std.proofs.lemmas.List.Quantifiers.{position-Some}
 use Rattle.std.proofs.lemmas.List.Folds.{list_any_at}
-use Rattle.book.specs.Jobs.{has_ticket, is_open, without}
+use Rattle.book.specs.Jobs.{has_ticket, is_ticket_open, jobs_without}
 
 -- a job with no values
 abbrev pub no_job : Job
@@ -42,13 +42,13 @@ not_open p [] none = refl
 not_open p (j ∷ js) none = let rest = not_open p js in grind (arith, nat_tests)
 
 -- all jobs have other tickets
-without_other : (t : ℕ) (js : List Job) → All (λ j. t ≢ j.ticket) js → without t js ≡ js
+without_other : (t : ℕ) (js : List Job) → All (λ j. t ≢ j.ticket) js → jobs_without t js ≡ js
 without_other t [] all = refl
 without_other t (j ∷ js) all = let here = All-head (λ k. t ≢ k.ticket) j js all in let rest = without_other t js (All-tail (λ k. t ≢ k.ticket) j js all) in grind (arith, nat_tests)
 
 -- where tickets differ, the jobs without a ticket are those without the one that has it
 pub without_removes : (t i : ℕ) (js : List Job) (d : Job) → i < length js → has_ticket t (get_or js i d) ≡ true → AllPairs (λ j k. j.ticket ≢ k.ticket) js
-    → remove js i ≡ without t js
+    → remove js i ≡ jobs_without t js
 without_removes t i [] d lt has pairs = absurd (omega arith)
 without_removes t zero (j ∷ js) d lt has pairs =
     let rest = without_other j.ticket js (AllPairs-head (λ j k. j.ticket ≢ k.ticket) j js pairs) in grind (arith, nat_tests)
@@ -62,9 +62,9 @@ position-unwrap_or p xs n e = cond_both (nat_lt (position_or_len p xs) (length x
     (λ _. refl) (λ past. grind (arith, nat_tests, prefix_len-le-length (λ x. not (p x)) xs))
 
 -- a place that is found holds an open job with the ticket
-pub found_open : (t i : ℕ) (js : List Job) → position (has_ticket t) js ≡ Some i → is_open t js ≡ true
+pub found_open : (t i : ℕ) (js : List Job) → position (has_ticket t) js ≡ Some i → is_ticket_open t js ≡ true
 found_open t i js e = let at = position-Some (has_ticket t) js i no_job e in list_any_at (has_ticket t) js i no_job at.0 at.1
 
 -- and the jobs without it are those without the ticket
-pub found_without : (t i : ℕ) (js : List Job) → position (has_ticket t) js ≡ Some i → AllPairs (λ j k. j.ticket ≢ k.ticket) js → remove js i ≡ without t js
+pub found_without : (t i : ℕ) (js : List Job) → position (has_ticket t) js ≡ Some i → AllPairs (λ j k. j.ticket ≢ k.ticket) js → remove js i ≡ jobs_without t js
 found_without t i js e differ = let at = position-Some (has_ticket t) js i no_job e in without_removes t i js no_job at.0 at.1 differ

@@ -16,10 +16,10 @@ use Rattle.layout.proofs.BigEndian.{number-bytes}
 use Rattle.book.specs.declared.job.Job.{Job}
 use Rattle.book.specs.declared.fault.BookFault.TheVariants.{Short, Image}
 use Rattle.book.specs.Demands.{demands}
-use Rattle.book.specs.Book.{View, WellFormed, Lawful, empty_book}
-use Rattle.book.specs.Calls.{outcome, overload_in}
-use Rattle.book.specs.Images.{is_clock, book_in, wrong_record, length_fault, load_fault, loaded, clock_record, image, image_records, record_in, later_records, job_record, blank_record, wrong_later}
-use Rattle.book.specs.Loads.{Sized, AllSized, Shows, CanBegin, FirstWrong, OnlyImages, LoadsBack}
+use Rattle.book.specs.Book.{View, IsWellFormed, IsLawful, empty_book}
+use Rattle.book.specs.Calls.{outcome, first_overload_of}
+use Rattle.book.specs.Images.{is_clock, book_in, first_wrong, length_fault, load_fault, load_outcome, clock_record, image, image_records, record_in, later_records, job_record, blank_record, first_wrong_later}
+use Rattle.book.specs.Loads.{IsSizedJob, AreSized, Shows, CanBegin, IsFirstWrong, OnlyImages, LoadsBack}
 use Rattle.book.proofs.Records.{records, AllWhole, length-joined, begins_records, records_begin}
 use Rattle.book.proofs.WrongRecords.{later_of, within, never_wrong, none_wrong, jobs_back, begins, shows_all}
 use Rattle.book.proofs.Images.{Standing, jobs_of, book_of, searched, none_standing, clock_parts, wellformed_jobs, wellformed_in, lawful_from}
@@ -85,7 +85,7 @@ shows_from_holds : (list : List ℕ) (b : View) → length b.jobs ≤ 64 → Hol
 shows_from_holds list b few h = begun_from_parts 64 list b (omega arith) h.clock (take_later list ∙ (h.later ∙ sym (take_later_of b few))) ∙ take_image b few
 
 -- the record of now and the top of a well-formed book
-module _ (b : View) (w : WellFormed b) where
+module _ (b : View) (w : IsWellFormed b) where
   now_back : arrival_of (clock_record b.now b.top) ≡ b.now
   now_back = number-bytes 6 b.now (omega (arith, w.in_time))
 
@@ -100,7 +100,7 @@ module _ (b : View) (w : WellFormed b) where
   standing : Standing b.now b.jobs
   standing = record { apart = w.tickets_differ; order = w.in_order; open_at = w.jobs_open }
 
-  module _ (fit : AllSized b) where
+  module _ (fit : AreSized b) where
     -- the records of such a book say the book
     book_back : (r : List ℕ) (rs : List (List ℕ)) (n : ℕ) → r ≡ clock_record b.now b.top → rs ≡ later_of b.jobs n → book_of r rs ≡ b
     book_back r rs n clock later =
@@ -110,23 +110,23 @@ module _ (b : View) (w : WellFormed b) where
         λ i. record { now = now i; top = top i; jobs = jobs i }
 
     -- and none of them is wrong
-    accepted_records : (r : List ℕ) (rs : List (List ℕ)) (n : ℕ) → r ≡ clock_record b.now b.top → rs ≡ later_of b.jobs n → cond (is_clock r) (wrong_later (arrival_of r) [] 1 rs) (Some 0) ≡ None
+    accepted_records : (r : List ℕ) (rs : List (List ℕ)) (n : ℕ) → r ≡ clock_record b.now b.top → rs ≡ later_of b.jobs n → cond (is_clock r) (first_wrong_later (arrival_of r) [] 1 rs) (Some 0) ≡ None
     accepted_records r rs n clock later =
         let now : arrival_of r ≡ b.now = ap arrival_of clock ∙ now_back in
-        cond-true (is_clock r) (wrong_later (arrival_of r) [] 1 rs) (Some 0) (ap is_clock clock ∙ clock_accepted)
-        ∙ ((λ i. wrong_later (now i) [] 1 (later i)) ∙ none_wrong b.now [] b.jobs n 1 standing fit)
+        cond-true (is_clock r) (first_wrong_later (arrival_of r) [] 1 rs) (Some 0) (ap is_clock clock ∙ clock_accepted)
+        ∙ ((λ i. first_wrong_later (now i) [] 1 (later i)) ∙ none_wrong b.now [] b.jobs n 1 standing fit)
 
     book_shown : (list : List ℕ) → Shows list b → book_in list ≡ b
     book_shown list e = let h = holds_from_shows list b w.few e in book_back (record_in list 0) (later_records list) (64 - length b.jobs) h.clock h.later
 
-    none_wrong_shown : (list : List ℕ) → Shows list b → wrong_record list ≡ None
+    none_wrong_shown : (list : List ℕ) → Shows list b → first_wrong list ≡ None
     none_wrong_shown list e = let h = holds_from_shows list b w.few e in accepted_records (record_in list 0) (later_records list) (64 - length b.jobs) h.clock h.later
 
 -- the search finds no overload in a lawful book
-none_over : (b : View) → Lawful b → overload_in b ≡ None
-none_over b lawful = go (overload_in b) refl
+none_over : (b : View) → IsLawful b → first_overload_of b ≡ None
+none_over b lawful = go (first_overload_of b) refl
   where
-    go : (o : Option (ℕ × ℕ)) → overload_in b ≡ o → overload_in b ≡ None
+    go : (o : Option (ℕ × ℕ)) → first_overload_of b ≡ o → first_overload_of b ≡ None
     go None e = e
     go (Some xy) e = absurd ((subst (Searched horizon (demands b.now b.jobs) b.top) e (searched b lawful.well_formed)).1 lawful.none_overloaded)
 
@@ -138,16 +138,16 @@ length-shown : (list : List ℕ) (b : View) → length b.jobs ≤ 64 → Shows l
 length-shown list b few e = omega (arith, ap length e, length-image b few, length-take 1560 list)
 
 -- an image of a lawful book is loaded
-loads : (list : List ℕ) (b : View) → Lawful b → AllSized b → Shows list b → load_fault list ≡ None
+loads : (list : List ℕ) (b : View) → IsLawful b → AreSized b → Shows list b → load_fault list ≡ None
 loads list b lawful fit e =
     let w = lawful.well_formed in
     let long : length_fault list ≡ None = long_enough list (length-shown list b w.few e) in
-    let none : wrong_record list ≡ None = none_wrong_shown b w fit list e in
-    let over : overload_in (book_in list) ≡ None = ap overload_in (book_shown b w fit list e) ∙ none_over b lawful in
+    let none : first_wrong list ≡ None = none_wrong_shown b w fit list e in
+    let over : first_overload_of (book_in list) ≡ None = ap first_overload_of (book_shown b w fit list e) ∙ none_over b lawful in
     λ i. option_or (long i) (option_map Image (option_or (none i) (option_map (λ ab. 65) (over i))))
 
 -- so an image that is saved loads back
-pub loads_back : (b : View) (rest : List ℕ) → Lawful b → AllSized b → LoadsBack (image b ++ rest) b
+pub loads_back : (b : View) (rest : List ℕ) → IsLawful b → AreSized b → LoadsBack (image b ++ rest) b
 loads_back b rest lawful fit =
     let w = lawful.well_formed in
     let shows : Shows (image b ++ rest) b = take_at (image b) rest 1560 (length-image b w.few) in
@@ -158,20 +158,20 @@ loads_back b rest lawful fit =
     }
 
 -- records of which none is wrong are those of the book that they say
-records_hold : (r : List ℕ) (rs : List (List ℕ)) → wrong_later (arrival_of r) [] 1 rs ≡ None → (rs ≡ later_of (jobs_of rs) (length rs - length (jobs_of rs))) × All Sized (jobs_of rs)
+records_hold : (r : List ℕ) (rs : List (List ℕ)) → first_wrong_later (arrival_of r) [] 1 rs ≡ None → (rs ≡ later_of (jobs_of rs) (length rs - length (jobs_of rs))) × All IsSizedJob (jobs_of rs)
 records_hold r rs e =
     let s = shows_all (arrival_of r) [] 1 rs (none_standing (arrival_of r)) e in
     let same : s.jobs ≡ jobs_of rs = sym (ap jobs_of s.form ∙ jobs_back (arrival_of r) s.jobs (length rs - length s.jobs) s.standing.open_at s.fit) in
-    (subst (λ js. rs ≡ later_of js (length rs - length js)) same s.form, subst (All Sized) same s.fit)
+    (subst (λ js. rs ≡ later_of js (length rs - length js)) same s.form, subst (All IsSizedJob) same s.fit)
 
 length-later_records : (list : List ℕ) → length (later_records list) ≡ 64
 length-later_records list = length-map-range_with_len (record_in list) 1 64
 
 -- what a list shows in which none is wrong
-shows_book : (list : List ℕ) → wrong_record list ≡ None → Shows list (book_in list) × AllSized (book_in list)
+shows_book : (list : List ℕ) → first_wrong list ≡ None → Shows list (book_in list) × AreSized (book_in list)
 shows_book list e = go (is_clock (record_in list 0)) refl e
   where
-    go : (t : Bool) → is_clock (record_in list 0) ≡ t → cond t (wrong_later (arrival_of (record_in list 0)) [] 1 (later_records list)) (Some 0) ≡ None → Shows list (book_in list) × AllSized (book_in list)
+    go : (t : Bool) → is_clock (record_in list 0) ≡ t → cond t (first_wrong_later (arrival_of (record_in list 0)) [] 1 (later_records list)) (Some 0) ≡ None → Shows list (book_in list) × AreSized (book_in list)
     go false t none = absurd (cc)
     go true t none =
         let w = wellformed_in list e in
@@ -187,22 +187,22 @@ take-later_of i n js low high =
     ap (λ k. take k (later_of js n)) at ∙ (take-append-add (map job_record js) (replicate n blank_record) m ∙ ap (λ rs. map job_record js ++ rs) (take-replicate m n blank_record (omega arith)))
 
 -- an empty book is well-formed
-empty_wellformed : WellFormed (empty_book 0 1)
+empty_wellformed : IsWellFormed (empty_book 0 1)
 empty_wellformed =
     let s = none_standing 0 in
     record { in_time = omega arith; top_positive = omega arith; top_within = omega arith; few = omega arith; tickets_differ = s.apart; in_order = s.order; jobs_open = s.open_at }
 
 -- the first record is the first wrong one where it is not that of a now and a top
-wrong_clock : (list : List ℕ) → is_clock (record_in list 0) ≡ false → FirstWrong 0 list
+wrong_clock : (list : List ℕ) → is_clock (record_in list 0) ≡ false → IsFirstWrong 0 list
 wrong_clock list f = record {
-  before = (empty_book 0 1, empty_wellformed, All-nil Sized, refl);
+  before = (empty_book 0 1, empty_wellformed, All-nil IsSizedJob, refl);
   none_with = λ can.
       let parts = begun_parts 0 list can.0 (omega arith) can.1.few can.3 in
       both_ways (is_clock (record_in list 0)) f (ap is_clock parts.0 ∙ clock_accepted can.0 can.1);
 }
 
 -- a later one is where the search says so
-wrong_at : (list : List ℕ) (i : ℕ) → i < 64 → is_clock (record_in list 0) ≡ true → wrong_later (arrival_of (record_in list 0)) [] 1 (later_records list) ≡ Some (1 + i) → FirstWrong (suc i) list
+wrong_at : (list : List ℕ) (i : ℕ) → i < 64 → is_clock (record_in list 0) ≡ true → first_wrong_later (arrival_of (record_in list 0)) [] 1 (later_records list) ≡ Some (1 + i) → IsFirstWrong (suc i) list
 wrong_at list i lt t e = record { before = before; none_with = none_with }
   where
     before : CanBegin (suc i) list
@@ -222,39 +222,39 @@ wrong_at list i lt t e = record { before = before; none_with = none_with }
         let e2 : suc i + 1 ≡ suc (suc i) = omega arith in
         let parts = begun_parts (suc i) list b (omega arith) can.1.few (subst (λ n. take (24 * n) list ≡ take (24 * n) (image b)) e2 can.3) in
         let now : arrival_of (record_in list 0) ≡ b.now = ap arrival_of parts.0 ∙ now_back b can.1 in
-        never_wrong b.now [] b.jobs (64 - length b.jobs) 1 i (later_records list) (standing b can.1) can.2 parts.1 (ap (λ n. wrong_later n [] 1 (later_records list)) (sym now) ∙ e)
+        never_wrong b.now [] b.jobs (64 - length b.jobs) 1 i (later_records list) (standing b can.1) can.2 parts.1 (ap (λ n. first_wrong_later n [] 1 (later_records list)) (sym now) ∙ e)
 
 -- the record that is named is the first wrong one, and one of the 65
-first_wrong : (list : List ℕ) (k : ℕ) → wrong_record list ≡ Some k → FirstWrong k list × (k < 65)
+first_wrong : (list : List ℕ) (k : ℕ) → first_wrong list ≡ Some k → IsFirstWrong k list × (k < 65)
 first_wrong list k e = go (is_clock (record_in list 0)) refl e
   where
-    go : (t : Bool) → is_clock (record_in list 0) ≡ t → cond t (wrong_later (arrival_of (record_in list 0)) [] 1 (later_records list)) (Some 0) ≡ Some k → FirstWrong k list × (k < 65)
-    go false t s = let same : 0 ≡ k = cc in (subst (λ n. FirstWrong n list) same (wrong_clock list t), omega arith)
+    go : (t : Bool) → is_clock (record_in list 0) ≡ t → cond t (first_wrong_later (arrival_of (record_in list 0)) [] 1 (later_records list)) (Some 0) ≡ Some k → IsFirstWrong k list × (k < 65)
+    go false t s = let same : 0 ≡ k = cc in (subst (λ n. IsFirstWrong n list) same (wrong_clock list t), omega arith)
     go true t s =
         let found = within (arrival_of (record_in list 0)) [] 1 (later_records list) k s in
         let i = found.0 in
         let low : i < 64 = omega (arith, found.1, length-later_records list) in
         let same : suc i ≡ k = omega (arith, found.2) in
-        (subst (λ n. FirstWrong n list) same (wrong_at list i low t (s ∙ ap (λ x. Some x) (sym found.2))), omega arith)
+        (subst (λ n. IsFirstWrong n list) same (wrong_at list i low t (s ∙ ap (λ x. Some x) (sym found.2))), omega arith)
 
 -- what an answer of load tells
-pub only_images : (before : View) (list : List ℕ) → 1560 ≤ length list → OnlyImages list (loaded before list).answer (loaded before list).book
-only_images before list le = subst (λ f. OnlyImages list (outcome f before (book_in list)).answer (outcome f before (book_in list)).book) (sym fault_is) (go (wrong_record list) refl (overload_in (book_in list)) refl)
+pub only_images : (before : View) (list : List ℕ) → 1560 ≤ length list → OnlyImages list (load_outcome before list).answer (load_outcome before list).book
+only_images before list le = subst (λ f. OnlyImages list (outcome f before (book_in list)).answer (outcome f before (book_in list)).book) (sym fault_is) (go (first_wrong list) refl (first_overload_of (book_in list)) refl)
   where
-    fault_is : load_fault list ≡ option_map Image (option_or (wrong_record list) (option_map (λ ab. 65) (overload_in (book_in list))))
-    fault_is = ap (λ f. option_or f (option_map Image (option_or (wrong_record list) (option_map (λ ab. 65) (overload_in (book_in list)))))) (long_enough list le)
+    fault_is : load_fault list ≡ option_map Image (option_or (first_wrong list) (option_map (λ ab. 65) (first_overload_of (book_in list))))
+    fault_is = ap (λ f. option_or f (option_map Image (option_or (first_wrong list) (option_map (λ ab. 65) (first_overload_of (book_in list)))))) (long_enough list le)
 
-    none_over_shown : (b : View) → Lawful b → AllSized b → Shows list b → overload_in (book_in list) ≡ None
-    none_over_shown b l fit shows = ap overload_in (book_shown b l.well_formed fit list shows) ∙ none_over b l
+    none_over_shown : (b : View) → IsLawful b → AreSized b → Shows list b → first_overload_of (book_in list) ≡ None
+    none_over_shown b l fit shows = ap first_overload_of (book_shown b l.well_formed fit list shows) ∙ none_over b l
 
-    go : (w : Option ℕ) → wrong_record list ≡ w → (o : Option (ℕ × ℕ)) → overload_in (book_in list) ≡ o
+    go : (w : Option ℕ) → first_wrong list ≡ w → (o : Option (ℕ × ℕ)) → first_overload_of (book_in list) ≡ o
         → OnlyImages list (outcome (option_map Image (option_or w (option_map (λ ab. 65) o))) before (book_in list)).answer (outcome (option_map Image (option_or w (option_map (λ ab. 65) o))) before (book_in list)).book
     go (Some n) e o s =
         let wrong = first_wrong list n e in
         record {
           accepted = (λ no. absurd (cc), λ can. absurd (let none = none_wrong_shown can.0 can.1.well_formed can.2 list can.3 in cc));
           same = λ b l fit shows. absurd (let none = none_wrong_shown b l.well_formed fit list shows in cc);
-          named = λ k is lt. let same : n ≡ k = cc in subst (λ x. FirstWrong x list) same wrong.0;
+          named = λ k is lt. let same : n ≡ k = cc in subst (λ x. IsFirstWrong x list) same wrong.0;
           overloaded = λ is. let same : n ≡ 65 = cc in absurd (omega (arith, wrong.1));
           numbered = λ k is. let same : n ≡ k = cc in omega (arith, wrong.1);
         }

@@ -11,12 +11,12 @@ use Rattle.schedule.specs.Certificate.{listed}
 use Rattle.schedule.specs.InForce.{horizon, Same, InForce}
 use Rattle.schedule.proofs.SettledLaws.{settled_same}
 use Rattle.schedule.proofs.Theory.{theory}
-use Rattle.planner.specs.Plannable.{Plannable}
+use Rattle.planner.specs.Plannable.{IsPlannable}
 use Rattle.book.specs.declared.job.Job.{Job}
 use Rattle.book.specs.Jobs.{is_before}
 use Rattle.book.specs.Demands.{demand, demands}
-use Rattle.book.specs.Book.{View, OpenAt, InOrder}
-use Rattle.book.specs.Settings.{settings_of, with_settings}
+use Rattle.book.specs.Book.{View, IsOpenAt, IsInOrder}
+use Rattle.book.specs.Settings.{settings_of, list_with_settings}
 use Rattle.book.proofs.DemandFacts.{sound-demands}
 use Rattle.book.proofs.Jobs.{AllPairs-head, AllPairs-tail}
 
@@ -29,14 +29,14 @@ later_due now j (k ∷ ks) all =
     (omega arith, later_due now j ks (All-tail (λ k. is_before j k ≡ true) k ks all))
 
 -- jobs in the order of serving have their demands in order of deadline
-pub sorted-demands : (now : ℕ) (js : List Job) → InOrder js → Sorted (demands now js)
+pub sorted-demands : (now : ℕ) (js : List Job) → IsInOrder js → Sorted (demands now js)
 sorted-demands now [] order = tt
 sorted-demands now (j ∷ js) order = (
   later_due now j js (AllPairs-head (λ j k. is_before j k ≡ true) j js order),
   sorted-demands now js (AllPairs-tail (λ j k. is_before j k ≡ true) j js order),
 )
 
-pub plannable-demands : (now : ℕ) (js : List Job) → length js ≤ 64 → InOrder js → All (OpenAt now) js → Plannable (demands now js)
+pub plannable-demands : (now : ℕ) (js : List Job) → length js ≤ 64 → IsInOrder js → All (IsOpenAt now) js → IsPlannable (demands now js)
 plannable-demands now js few order open_at = record {
   few = omega (arith, length-map {A = Job} {B = Demand});
   sound = sound-demands _ now js theory.ticks open_at;
@@ -44,7 +44,7 @@ plannable-demands now js few order open_at = record {
 }
 
 -- the settings in force, written into the first places of a list
-pub written : (b : View) (xs list : List ℕ) → length xs ≡ 256 → Same horizon (listed xs) (settings_of b) → xs ++ drop 256 list ≡ with_settings b list
+pub written : (b : View) (xs list : List ℕ) → length xs ≡ 256 → Same horizon (listed xs) (settings_of b) → xs ++ drop 256 list ≡ list_with_settings b list
 written b xs list long same =
     let ticks : horizon ≡ 256 = theory.ticks in
     let all : xs ≡ map (settings_of b) (range_with_len 0 horizon) = fill_by_all (settings_of b) xs horizon 0 (omega arith) same in
@@ -56,7 +56,7 @@ in_force_same ds s q sound stands same =
     (theory.standing.settled horizon ds q sound).1 (settled_same horizon ds ds s q (λ _ _ _ _. refl) same ((theory.standing.settled horizon ds s sound).0 stands))
 
 -- so is a list that begins with them
-pub in_force_first : (now : ℕ) (js : List Job) (xs rest : List ℕ) → length xs ≡ 256 → All (OpenAt now) js → InForce horizon (demands now js) (listed xs) →
+pub in_force_first : (now : ℕ) (js : List Job) (xs rest : List ℕ) → length xs ≡ 256 → All (IsOpenAt now) js → InForce horizon (demands now js) (listed xs) →
     InForce horizon (demands now js) (listed (xs ++ rest))
 in_force_first now js xs rest long open_at stands =
     in_force_same (demands now js) (listed xs) (listed (xs ++ rest)) (sound-demands horizon now js theory.ticks open_at) stands

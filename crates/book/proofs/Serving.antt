@@ -8,17 +8,17 @@ use Rattle.std.proofs.lemmas.Bool.{cases_Bool}
 use Rattle.std.proofs.lemmas.Bool.Decides.{nat_tests}
 use Rattle.std.proofs.lemmas.List.Elements.{All-head, All-tail}
 use Rattle.queue.specs.declared.ready.ReadyJob.{ReadyJob}
-use Rattle.queue.specs.Elements.{ready_before}
-use Rattle.queue.specs.Slots.{Slots, held}
+use Rattle.queue.specs.Elements.{is_ready_before}
+use Rattle.queue.specs.Slots.{Slots, elements_of}
 use Rattle.queue.specs.Says.{Removed}
 use Rattle.schedule.specs.Edf.{given}
 use Rattle.book.specs.declared.job.Job.{Job}
 use Rattle.book.specs.declared.tick.Entry.{Entry}
 use Rattle.book.specs.Jobs.{is_before}
 use Rattle.book.specs.Demands.{demand}
-use Rattle.book.specs.Book.{OpenAt, InOrder}
-use Rattle.book.specs.Ready.{ready, ready_from}
-use Rattle.book.specs.Ticks.{shares, worked, entry, entries, with_entries, has_work}
+use Rattle.book.specs.Book.{IsOpenAt, IsInOrder}
+use Rattle.book.specs.Ready.{ready_job, ready_jobs}
+use Rattle.book.specs.Ticks.{shares, job_after, entry_of, entries_of, list_with, has_work}
 use Rattle.book.proofs.Jobs.{AllPairs-head, AllPairs-tail}
 use Rattle.book.proofs.Ready.{Alike, alike, first_taken, ready_after, alike_length, alike_none}
 
@@ -31,12 +31,12 @@ idle now u j later = grind (arith, nat_tests)
 
 -- what is left of jobs, and the entries, after u units
 abbrev pub jobs_then : ℕ → ℕ → List Job → List Job
-jobs_then now u js = map worked (shares now u js)
+jobs_then now u js = map job_after (shares now u js)
 
 abbrev pub entries_then : ℕ → ℕ → List Job → List Entry
-entries_then now u js = entries (shares now u js)
+entries_then now u js = entries_of (shares now u js)
 
-worked_none : (j : Job) → worked (j, 0) ≡ j
+worked_none : (j : Job) → job_after (j, 0) ≡ j
 worked_none j = let e : j.work - 0 ≡ j.work = omega arith in λ i. record { ticket = j.ticket; arrival = j.arrival; deadline = j.deadline; work = e i }
 
 -- the first of the jobs whose window has begun, behind those that get nothing
@@ -47,8 +47,8 @@ pub record Begun (now u : ℕ) (pre rest : List Job) : Type 0 where
   pub same : before ++ job ∷ after ≡ pre ++ rest
   pub begun : nat_le job.arrival now ≡ true
   pub working : All (λ j. has_work j ≡ true) (job ∷ after)
-  pub order : InOrder (job ∷ after)
-  pub queue : ready_from now (length before) (job ∷ after) ≡ ready_from now (length pre) rest
+  pub order : IsInOrder (job ∷ after)
+  pub queue : ready_jobs now (length before) (job ∷ after) ≡ ready_jobs now (length pre) rest
   pub jobs : before ++ jobs_then now u (job ∷ after) ≡ pre ++ jobs_then now u rest
   pub entries_same : entries_then now u (job ∷ after) ≡ entries_then now u rest
   pub fewer : length (job ∷ after) ≤ length rest
@@ -58,15 +58,15 @@ idle_jobs : (now u : ℕ) (j : Job) (js : List Job) → nat_le j.arrival now ≡
 idle_jobs now u j js later =
     let none = idle now u j later in
     let all : u - 0 ≡ u = omega arith in
-    subst (λ g. (worked (j, g) ∷ map worked (shares now (u - g) js)) ≡ j ∷ jobs_then now u js) (sym none) (λ i. worked_none j i ∷ jobs_then now (all i) js)
+    subst (λ g. (job_after (j, g) ∷ map job_after (shares now (u - g) js)) ≡ j ∷ jobs_then now u js) (sym none) (λ i. worked_none j i ∷ jobs_then now (all i) js)
 
 idle_entries : (now u : ℕ) (j : Job) (js : List Job) → nat_le j.arrival now ≡ false → entries_then now u (j ∷ js) ≡ entries_then now u js
 idle_entries now u j js later =
     let none = idle now u j later in
     let all : u - 0 ≡ u = omega arith in
-    subst (λ g. entries ((j, g) ∷ shares now (u - g) js) ≡ entries_then now u js) (sym none) (λ i. entries_then now (all i) js)
+    subst (λ g. entries_of ((j, g) ∷ shares now (u - g) js) ≡ entries_then now u js) (sym none) (λ i. entries_then now (all i) js)
 
-pub skip : (now u : ℕ) (pre rest : List Job) → All (λ j. has_work j ≡ true) rest → InOrder rest → 0 < length (ready_from now (length pre) rest) → Begun now u pre rest
+pub skip : (now u : ℕ) (pre rest : List Job) → All (λ j. has_work j ≡ true) rest → IsInOrder rest → 0 < length (ready_jobs now (length pre) rest) → Begun now u pre rest
 skip now u pre [] working order some = absurd (omega arith)
 skip now u pre (j ∷ js) working order some = elim (cases_Bool (nat_le j.arrival now)) [
   | inl t ↦ record {
@@ -84,7 +84,7 @@ skip now u pre (j ∷ js) working order some = elim (cases_Bool (nat_le j.arriva
   }
   | inr t ↦
       let one : length (pre ++ j ∷ []) ≡ length pre + 1 = omega (arith, length-append pre (j ∷ [])) in
-      let rest_ready : ready_from now (length (pre ++ j ∷ [])) js ≡ ready_from now (length pre) (j ∷ js) = rw (t, one) refl in
+      let rest_ready : ready_jobs now (length (pre ++ j ∷ [])) js ≡ ready_jobs now (length pre) (j ∷ js) = rw (t, one) refl in
       let r = skip now u (pre ++ j ∷ []) js (All-tail (λ j. has_work j ≡ true) j js working) (AllPairs-tail (λ i k. is_before i k ≡ true) j js order) (omega (arith, ap length rest_ready)) in
       record {
         before = r.before;
@@ -109,26 +109,26 @@ pub record Serving (now left count : ℕ) (jobs jobs_after : List Job) (list fir
   pub done : List Entry
   pub jobs_are : pre ++ rest ≡ jobs
   pub working : All (λ j. has_work j ≡ true) rest
-  pub order : InOrder rest
-  pub queued : Alike (ready_from now (length pre) rest) queue
+  pub order : IsInOrder rest
+  pub queued : Alike (ready_jobs now (length pre) rest) queue
   pub jobs_end : pre ++ jobs_then now left rest ≡ jobs_after
   pub counted : length done ≡ count
   pub room : length done + length rest ≤ 64
-  pub list_is : list ≡ with_entries done first
+  pub list_is : list ≡ list_with done first
   pub entries_end : done ++ entries_then now left rest ≡ all
 
 -- a job whose window has begun does its work, or what is left of the units if that is less
-served_jobs : (now u : ℕ) (j : Job) (js : List Job) → nat_le j.arrival now ≡ true → jobs_then now u (j ∷ js) ≡ worked (j, min j.work u) ∷ jobs_then now (u - min j.work u) js
-served_jobs now u j js begun = ap (λ g. worked (j, g) ∷ map worked (shares now (u - g) js)) (busy now u j begun)
+served_jobs : (now u : ℕ) (j : Job) (js : List Job) → nat_le j.arrival now ≡ true → jobs_then now u (j ∷ js) ≡ job_after (j, min j.work u) ∷ jobs_then now (u - min j.work u) js
+served_jobs now u j js begun = ap (λ g. job_after (j, g) ∷ map job_after (shares now (u - g) js)) (busy now u j begun)
 
 served_entries : (now u : ℕ) (j : Job) (js : List Job) → nat_le j.arrival now ≡ true → has_work j ≡ true → 0 < u
-    → entries_then now u (j ∷ js) ≡ entry (j, min j.work u) ∷ entries_then now (u - min j.work u) js
+    → entries_then now u (j ∷ js) ≡ entry_of (j, min j.work u) ∷ entries_then now (u - min j.work u) js
 served_entries now u j js begun working some =
     let t : nat_lt 0 (min j.work u) ≡ true = grind (arith, nat_tests) in
-    ap (λ g. entries ((j, g) ∷ shares now (u - g) js)) (busy now u j begun) ∙ rw t refl
+    ap (λ g. entries_of ((j, g) ∷ shares now (u - g) js)) (busy now u j begun) ∙ rw t refl
 
 -- an entry more is written
-more_entries : (es list : List Entry) (e : Entry) → length es < length list → set (with_entries es list) (length es) e ≡ with_entries (es ++ e ∷ []) list
+more_entries : (es list : List Entry) (e : Entry) → length es < length list → set (list_with es list) (length es) e ≡ list_with (es ++ e ∷ []) list
 more_entries es list e lt =
     let long : length (es ++ e ∷ []) ≡ suc (length es) = omega (arith, length-append es (e ∷ [])) in
     rw (long, drop-cons list (length es) e lt, set-append_seam es (get_or list (length es) e) (drop (suc (length es)) list) e, append_assoc es (e ∷ []) (drop (suc (length es)) list)) refl
@@ -136,17 +136,17 @@ more_entries es list e lt =
 -- what a take of the queue gives is the next ready job
 pub record Next (now left count : ℕ) (jobs jobs_after : List Job) (list first all : List Entry) (x : ReadyJob) (queue : List ReadyJob) : Type 0 where
   pub job : Job
-  pub bound : x.place < length jobs
-  pub is : (d : Job) → get_or jobs x.place d ≡ job
+  pub bound : x.index < length jobs
+  pub is : (d : Job) → get_or jobs x.index d ≡ job
   pub room : count < length list
-  pub then : Serving now (left - min job.work left) (count + 1) (set jobs x.place (worked (job, min job.work left))) jobs_after
-      (set list count (entry (job, min job.work left))) first all queue
+  pub then : Serving now (left - min job.work left) (count + 1) (set jobs x.index (job_after (job, min job.work left))) jobs_after
+      (set list count (entry_of (job, min job.work left))) first all queue
 
 -- the first job served, behind those that get nothing
-module _ (now left count : ℕ) (jobs jobs_after : List Job) (list first all : List Entry) (x : ReadyJob) (q r : Slots ReadyJob) (s : Serving now left count jobs jobs_after list first all (held q))
-    (some : 0 < left) (long : 64 ≤ length first) (taken : Removed ready_before x q r) where
-  nonempty : 0 < length (ready_from now (length s.pre) s.rest)
-  nonempty = alike_length (ready_from now (length s.pre) s.rest) (held q) x (held r) s.queued taken.holds
+module _ (now left count : ℕ) (jobs jobs_after : List Job) (list first all : List Entry) (x : ReadyJob) (q r : Slots ReadyJob) (s : Serving now left count jobs jobs_after list first all (elements_of q))
+    (some : 0 < left) (long : 64 ≤ length first) (taken : Removed is_ready_before x q r) where
+  nonempty : 0 < length (ready_jobs now (length s.pre) s.rest)
+  nonempty = alike_length (ready_jobs now (length s.pre) s.rest) (elements_of q) x (elements_of r) s.queued taken.holds
 
   next_begun : Begun now left s.pre s.rest
   next_begun = skip now left s.pre s.rest s.working s.order nonempty
@@ -154,21 +154,21 @@ module _ (now left count : ℕ) (jobs jobs_after : List Job) (list first all : L
   abbrev served : ℕ
   served = min next_begun.job.work left
 
-  queue_is : ready_from now (length next_begun.before) (next_begun.job ∷ next_begun.after) ≡ ready (length next_begun.before) next_begun.job ∷ ready_from now (length next_begun.before + 1) next_begun.after
+  queue_is : ready_jobs now (length next_begun.before) (next_begun.job ∷ next_begun.after) ≡ ready_job (length next_begun.before) next_begun.job ∷ ready_jobs now (length next_begun.before + 1) next_begun.after
   queue_is = rw next_begun.begun refl
 
-  is_next : (ready (length next_begun.before) next_begun.job ≡ x) × Alike (ready_from now (length next_begun.before + 1) next_begun.after) (held r)
+  is_next : (ready_job (length next_begun.before) next_begun.job ≡ x) × Alike (ready_jobs now (length next_begun.before + 1) next_begun.after) (elements_of r)
   is_next =
       let b = next_begun in
-      first_taken x (ready (length b.before) b.job) (ready_from now (length b.before + 1) b.after) (held q) (held r)
-      (subst (λ xs. Alike xs (held q)) (sym b.queue ∙ queue_is) s.queued)
+      first_taken x (ready_job (length b.before) b.job) (ready_jobs now (length b.before + 1) b.after) (elements_of q) (elements_of r)
+      (subst (λ xs. Alike xs (elements_of q)) (sym b.queue ∙ queue_is) s.queued)
       (ready_after now (length b.before) (length b.before + 1) b.job b.after (AllPairs-head (λ i k. is_before i k ≡ true) b.job b.after b.order)) taken.holds taken.least
 
   split : next_begun.before ++ next_begun.job ∷ next_begun.after ≡ jobs
   split = next_begun.same ∙ s.jobs_are
 
-  place_is : length next_begun.before ≡ x.place
-  place_is = ap (λ (z : ReadyJob). z.place) is_next.0
+  place_is : length next_begun.before ≡ x.index
+  place_is = ap (λ (z : ReadyJob). z.index) is_next.0
 
   first_works : has_work next_begun.job ≡ true
   first_works = All-head (λ j. has_work j ≡ true) next_begun.job next_begun.after next_begun.working
@@ -176,11 +176,11 @@ module _ (now left count : ℕ) (jobs jobs_after : List Job) (list first all : L
   room_left : count < length list
   room_left = omega (arith, s.counted, s.room, next_begun.fewer, ap length s.list_is, length-append s.done (drop (length s.done) first), length-drop (length s.done) first)
 
-  then : Serving now (left - served) (count + 1) (set jobs x.place (worked (next_begun.job, served))) jobs_after (set list count (entry (next_begun.job, served))) first all (held r)
+  then : Serving now (left - served) (count + 1) (set jobs x.index (job_after (next_begun.job, served))) jobs_after (set list count (entry_of (next_begun.job, served))) first all (elements_of r)
   then =
       let b = next_begun in
-      let w = worked (b.job, served) in
-      let e = entry (b.job, served) in
+      let w = job_after (b.job, served) in
+      let e = entry_of (b.job, served) in
       let one_job : length (b.before ++ w ∷ []) ≡ length b.before + 1 = omega (arith, length-append b.before (w ∷ [])) in
       record {
         pre = b.before ++ w ∷ [];
@@ -190,19 +190,19 @@ module _ (now left count : ℕ) (jobs jobs_after : List Job) (list first all : L
             append_assoc b.before (w ∷ []) b.after ∙ sym (set-append_seam b.before b.job b.after w) ∙ ap (λ xs. set xs (length b.before) w) split ∙ ap (λ n. set jobs n w) place_is;
         working = All-tail (λ j. has_work j ≡ true) b.job b.after b.working;
         order = AllPairs-tail (λ i k. is_before i k ≡ true) b.job b.after b.order;
-        queued = subst (λ n. Alike (ready_from now n b.after) (held r)) (sym one_job) is_next.1;
+        queued = subst (λ n. Alike (ready_jobs now n b.after) (elements_of r)) (sym one_job) is_next.1;
         jobs_end =
             append_assoc b.before (w ∷ []) (jobs_then now (left - served) b.after)
             ∙ ap (λ xs. b.before ++ xs) (sym (served_jobs now left b.job b.after b.begun)) ∙ b.jobs ∙ s.jobs_end;
         counted = omega (arith, length-append s.done (e ∷ []), s.counted);
         room = omega (arith, length-append s.done (e ∷ []), s.room, b.fewer);
-        list_is = ap (λ xs. set xs count e) s.list_is ∙ ap (λ n. set (with_entries s.done first) n e) (sym s.counted) ∙ more_entries s.done first e (omega (arith, s.room, b.fewer));
+        list_is = ap (λ xs. set xs count e) s.list_is ∙ ap (λ n. set (list_with s.done first) n e) (sym s.counted) ∙ more_entries s.done first e (omega (arith, s.room, b.fewer));
         entries_end =
             append_assoc s.done (e ∷ []) (entries_then now (left - served) b.after)
             ∙ ap (λ xs. s.done ++ xs) (sym (served_entries now left b.job b.after b.begun first_works some) ∙ b.entries_same) ∙ s.entries_end;
       }
 
-  pub next : Next now left count jobs jobs_after list first all x (held r)
+  pub next : Next now left count jobs jobs_after list first all x (elements_of r)
   next =
       let b = next_begun in
       record {
@@ -216,7 +216,7 @@ module _ (now left count : ℕ) (jobs jobs_after : List Job) (list first all : L
 -- what serving leaves at its end
 pub record Served (jobs jobs_after : List Job) (list first all : List Entry) (count : ℕ) : Type 0 where
   pub jobs_are : jobs ≡ jobs_after
-  pub list_is : list ≡ with_entries all first
+  pub list_is : list ≡ list_with all first
   pub count_is : count ≡ length all
 
 -- no units are left
@@ -225,28 +225,28 @@ none_left now [] = (refl, refl)
 none_left now (j ∷ js) =
     let rest = none_left now js in
     let none : given 0 (demand now j) ≡ 0 = grind (arith, nat_tests) in (
-      ap (λ g. worked (j, g) ∷ map worked (shares now (0 - g) js)) none ∙ (λ i. worked_none j i ∷ rest.0 i),
-      ap (λ g. entries ((j, g) ∷ shares now (0 - g) js)) none ∙ rest.1,
+      ap (λ g. job_after (j, g) ∷ map job_after (shares now (0 - g) js)) none ∙ (λ i. worked_none j i ∷ rest.0 i),
+      ap (λ g. entries_of ((j, g) ∷ shares now (0 - g) js)) none ∙ rest.1,
     )
 
 -- or no ready job is
-none_ready : (now u k : ℕ) (js : List Job) → length (ready_from now k js) ≡ 0 → (jobs_then now u js ≡ js) × (entries_then now u js ≡ [])
+none_ready : (now u k : ℕ) (js : List Job) → length (ready_jobs now k js) ≡ 0 → (jobs_then now u js ≡ js) × (entries_then now u js ≡ [])
 none_ready now u k [] none = (refl, refl)
 none_ready now u k (j ∷ js) none = elim (cases_Bool (nat_le j.arrival now)) [
-  | inl t ↦ let some : length (ready_from now k (j ∷ js)) ≡ suc (length (ready_from now (k + 1) js)) = rw t refl in absurd (omega arith)
+  | inl t ↦ let some : length (ready_jobs now k (j ∷ js)) ≡ suc (length (ready_jobs now (k + 1) js)) = rw t refl in absurd (omega arith)
   | inr t ↦
-      let same : ready_from now k (j ∷ js) ≡ ready_from now (k + 1) js = rw t refl in
+      let same : ready_jobs now k (j ∷ js) ≡ ready_jobs now (k + 1) js = rw t refl in
       let rest = none_ready now u (k + 1) js (omega (arith, ap length same)) in
       (idle_jobs now u j js t ∙ ap (λ xs. j ∷ xs) rest.0, idle_entries now u j js t ∙ rest.1)
 ]
 
-module _ (now left count : ℕ) (jobs jobs_after : List Job) (list first all : List Entry) (q : Slots ReadyJob) (s : Serving now left count jobs jobs_after list first all (held q)) where
+module _ (now left count : ℕ) (jobs jobs_after : List Job) (list first all : List Entry) (q : Slots ReadyJob) (s : Serving now left count jobs jobs_after list first all (elements_of q)) where
   ended : (jobs_then now left s.rest ≡ s.rest) × (entries_then now left s.rest ≡ []) → Served jobs jobs_after list first all count
   ended same =
       let written : s.done ≡ all = sym (append-nil s.done) ∙ (sym (ap (λ xs. s.done ++ xs) same.1) ∙ s.entries_end) in
       record {
         jobs_are = sym s.jobs_are ∙ (sym (ap (λ xs. s.pre ++ xs) same.0) ∙ s.jobs_end);
-        list_is = s.list_is ∙ ap (λ es. with_entries es first) written;
+        list_is = s.list_is ∙ ap (λ es. list_with es first) written;
         count_is = sym s.counted ∙ ap length written;
       }
 
@@ -255,12 +255,12 @@ module _ (now left count : ℕ) (jobs jobs_after : List Job) (list first all : L
 
   pub all_served : q.count ≡ 0 → Served jobs jobs_after list first all count
   all_served none =
-      let empty : held q ≡ [] = ap (λ n. take n q.places) none in
-      ended (none_ready now left (length s.pre) s.rest (alike_none (ready_from now (length s.pre) s.rest) (held q) s.queued empty))
+      let empty : elements_of q ≡ [] = ap (λ n. take n q.slots) none in
+      ended (none_ready now left (length s.pre) s.rest (alike_none (ready_jobs now (length s.pre) s.rest) (elements_of q) s.queued empty))
 
 -- at the start none is served
-pub started : (now left : ℕ) (jobs : List Job) (first : List Entry) (queue : List ReadyJob) → length jobs ≤ 64 → InOrder jobs → All (OpenAt now) jobs
-    → IsPermutation (ready_from now 0 jobs) queue → Serving now left 0 jobs (jobs_then now left jobs) first first (entries_then now left jobs) queue
+pub started : (now left : ℕ) (jobs : List Job) (first : List Entry) (queue : List ReadyJob) → length jobs ≤ 64 → IsInOrder jobs → All (IsOpenAt now) jobs
+    → IsPermutation (ready_jobs now 0 jobs) queue → Serving now left 0 jobs (jobs_then now left jobs) first first (entries_then now left jobs) queue
 started now left jobs first queue few order open_at queued = record {
   pre = [];
   rest = jobs;
@@ -268,7 +268,7 @@ started now left jobs first queue few order open_at queued = record {
   jobs_are = refl;
   working = λ k d lt. let h = open_at k d lt in grind (arith, nat_tests);
   order = order;
-  queued = alike (ready_from now 0 jobs) queue queued;
+  queued = alike (ready_jobs now 0 jobs) queue queued;
   jobs_end = refl;
   counted = refl;
   room = omega arith;

@@ -12,18 +12,18 @@ use Rattle.std.proofs.lemmas.List.Quantifiers.{position-Some}
 use Rattle.std.proofs.lemmas.Slice.Eq.{bytes_eq-Decides}
 use Rattle.layout.proofs.BigEndian.{number-bytes}
 use Rattle.book.specs.declared.job.Job.{Job}
-use Rattle.book.specs.Jobs.{is_before, has_ticket, is_open}
-use Rattle.book.specs.Book.{OpenAt}
-use Rattle.book.specs.Images.{job_record, blank_record, job_in, can_be_open, is_next_job, not_blank, wrong_later}
-use Rattle.book.specs.Loads.{Sized}
+use Rattle.book.specs.Jobs.{is_before, has_ticket, is_ticket_open}
+use Rattle.book.specs.Book.{IsOpenAt}
+use Rattle.book.specs.Images.{job_record, blank_record, job_in, can_be_open, is_next_job, first_not_blank, first_wrong_later}
+use Rattle.book.specs.Loads.{IsSizedJob}
 use Rattle.book.proofs.Images.{all_before, map_none, Standing, Follows, bytes_fit, standing_push, next_job_parts, jobs_of, jobs_of_more, jobs_of_none}
 
 -- the test of a job that is open
-test_from_open : (now : ℕ) (j : Job) → OpenAt now j → can_be_open now j ≡ true
+test_from_open : (now : ℕ) (j : Job) → IsOpenAt now j → can_be_open now j ≡ true
 test_from_open now j h = grind (arith, nat_tests, h.some_ticket, h.work_left, h.not_due, h.in_sight, h.in_time, h.some_window, h.short_window)
 
 -- the record of a job says the job
-pub said : (now : ℕ) (j : Job) → OpenAt now j → Sized j → job_in (job_record j) ≡ j
+pub said : (now : ℕ) (j : Job) → IsOpenAt now j → IsSizedJob j → job_in (job_record j) ≡ j
 said now j o s =
     let ticket = number-bytes 2 j.ticket s.ticket in
     let arrival = number-bytes 6 j.arrival (omega (arith, o.in_time, o.some_window)) in
@@ -32,7 +32,7 @@ said now j o s =
     λ i. record { ticket = ticket i; arrival = arrival i; deadline = deadline i; work = work i }
 
 -- what a record says that has the form of a job's has the sizes of the fields
-sized : (r : List ℕ) → r ≡ job_record (job_in r) → Sized (job_in r)
+sized : (r : List ℕ) → r ≡ job_record (job_in r) → IsSizedJob (job_in r)
 sized r e =
     let j = job_in r in
     record { ticket = rw (ap (λ r. (job_in r).ticket) e) (bytes_fit 2 j.ticket); work = rw (ap (λ r. (job_in r).work) e) (bytes_fit 2 j.work) }
@@ -44,7 +44,7 @@ follows now before j js s =
     let low : n < length (before ++ (j ∷ js)) = omega (arith, length-append before (j ∷ js)) in
     let at : get_or (before ++ (j ∷ js)) n j ≡ j = get_or_at before j js j n refl in
     record {
-      open_at = subst (OpenAt now) at (s.open_at n j low);
+      open_at = subst (IsOpenAt now) at (s.open_at n j low);
       after = λ k d lt.
           let left : get_or (before ++ (j ∷ js)) k d ≡ get_or before k d = get_or_append_left before (j ∷ js) d k lt in
           let right : get_or (before ++ (j ∷ js)) n d ≡ j = get_or_at before j js d n refl in
@@ -58,10 +58,10 @@ follows now before j js s =
     }
 
 -- the record of a job that follows those before is that of a next job
-follower_is_next : (now : ℕ) (before : List Job) (j : Job) → Sized j → Follows now before j → is_next_job now before (job_record j) ≡ true
+follower_is_next : (now : ℕ) (before : List Job) (j : Job) → IsSizedJob j → Follows now before j → is_next_job now before (job_record j) ≡ true
 follower_is_next now before j s f =
     let says = said now j f.open_at s in
-    subst (λ i. (bytes_eq (job_record j) (job_record i) && (can_be_open now i && (list_all (λ k. is_before k i) before && not (is_open i.ticket before)))) ≡ true) (sym says)
+    subst (λ i. (bytes_eq (job_record j) (job_record i) && (can_be_open now i && (list_all (λ k. is_before k i) before && not (is_ticket_open i.ticket before)))) ≡ true) (sym says)
     (and_from _ _ ((bytes_eq-Decides (job_record j) (job_record j)).1 refl)
     (and_from _ _ (test_from_open now j f.open_at) (and_from _ _ ((all_before j before).1 f.after) (not_from_false _ f.closed))))
 
@@ -70,12 +70,12 @@ blank_stops : (now : ℕ) (before : List Job) → is_next_job now before blank_r
 blank_stops now before = refl
 
 -- one step of the search for a wrong record
-later_on : (now : ℕ) (before : List Job) (k : ℕ) (r : List ℕ) (rs : List (List ℕ)) → is_next_job now before r ≡ true → wrong_later now before k (r ∷ rs) ≡ wrong_later now (before ++ (job_in r ∷ [])) (k + 1) rs
-later_on now before k r rs e = cond-true (is_next_job now before r) (wrong_later now (before ++ (job_in r ∷ [])) (k + 1) rs) (not_blank k (r ∷ rs)) e
+later_on : (now : ℕ) (before : List Job) (k : ℕ) (r : List ℕ) (rs : List (List ℕ)) → is_next_job now before r ≡ true → first_wrong_later now before k (r ∷ rs) ≡ first_wrong_later now (before ++ (job_in r ∷ [])) (k + 1) rs
+later_on now before k r rs e = cond-true (is_next_job now before r) (first_wrong_later now (before ++ (job_in r ∷ [])) (k + 1) rs) (first_not_blank k (r ∷ rs)) e
 
 -- where the jobs end
-later_blank : (now : ℕ) (before : List Job) (k : ℕ) (r : List ℕ) (rs : List (List ℕ)) → is_next_job now before r ≡ false → wrong_later now before k (r ∷ rs) ≡ not_blank k (r ∷ rs)
-later_blank now before k r rs e = cond-false (is_next_job now before r) (wrong_later now (before ++ (job_in r ∷ [])) (k + 1) rs) (not_blank k (r ∷ rs)) e
+later_blank : (now : ℕ) (before : List Job) (k : ℕ) (r : List ℕ) (rs : List (List ℕ)) → is_next_job now before r ≡ false → first_wrong_later now before k (r ∷ rs) ≡ first_not_blank k (r ∷ rs)
+later_blank now before k r rs e = cond-false (is_next_job now before r) (first_wrong_later now (before ++ (job_in r ∷ [])) (k + 1) rs) (first_not_blank k (r ∷ rs)) e
 
 -- whether a record is not blank
 abbrev filled : List ℕ → Bool
@@ -86,19 +86,19 @@ blank_there : (r : List ℕ) → filled r ≡ false → r ≡ blank_record
 blank_there r e = (bytes_eq-Decides r blank_record).0 (not-false (bytes_eq r blank_record) e)
 
 -- the first place that is not blank, counted from k on
-place_of : (k : ℕ) (o : Option ℕ) (x : ℕ) → option_map (λ i. k + i) o ≡ Some x → (i : ℕ) × (o ≡ Some i) × (k + i ≡ x)
-place_of k None x e = absurd (cc)
-place_of k (Some i) x e = (i, refl, cc)
+index_of : (k : ℕ) (o : Option ℕ) (x : ℕ) → option_map (λ i. k + i) o ≡ Some x → (i : ℕ) × (o ≡ Some i) × (k + i ≡ x)
+index_of k None x e = absurd (cc)
+index_of k (Some i) x e = (i, refl, cc)
 
 -- the wrong record has a number among those of the records
-pub within : (now : ℕ) (before : List Job) (k : ℕ) (rs : List (List ℕ)) (x : ℕ) → wrong_later now before k rs ≡ Some x → (i : ℕ) × (i < length rs) × (k + i ≡ x)
+pub within : (now : ℕ) (before : List Job) (k : ℕ) (rs : List (List ℕ)) (x : ℕ) → first_wrong_later now before k rs ≡ Some x → (i : ℕ) × (i < length rs) × (k + i ≡ x)
 within now before k [] x e = absurd (cc)
 within now before k (r ∷ rs) x e = elim (cases_Bool (is_next_job now before r)) [
   | inl t ↦
       let more = within now (before ++ (job_in r ∷ [])) (k + 1) rs x (sym (later_on now before k r rs t) ∙ e) in
       (suc more.0, omega (arith, more.1), omega (arith, more.2))
   | inr f ↦
-      let found = place_of k (position filled (r ∷ rs)) x (sym (later_blank now before k r rs f) ∙ e) in
+      let found = index_of k (position filled (r ∷ rs)) x (sym (later_blank now before k r rs f) ∙ e) in
       (found.0, (position-Some filled (r ∷ rs) found.0 r found.1).0, found.2)
 ]
 
@@ -120,33 +120,33 @@ abbrev pub later_of : List Job → ℕ → List (List ℕ)
 later_of js n = map job_record js ++ replicate n blank_record
 
 -- the record of a job that can be open with those before is not the wrong one
-passes : (now : ℕ) (before : List Job) (j : Job) (js : List Job) (k : ℕ) (r : List ℕ) (rs : List (List ℕ)) (x : Option ℕ) → Standing now (before ++ (j ∷ js)) → Sized j → r ≡ job_record j
-    → wrong_later now before k (r ∷ rs) ≡ x → wrong_later now (before ++ (j ∷ [])) (k + 1) rs ≡ x
+passes : (now : ℕ) (before : List Job) (j : Job) (js : List Job) (k : ℕ) (r : List ℕ) (rs : List (List ℕ)) (x : Option ℕ) → Standing now (before ++ (j ∷ js)) → IsSizedJob j → r ≡ job_record j
+    → first_wrong_later now before k (r ∷ rs) ≡ x → first_wrong_later now (before ++ (j ∷ [])) (k + 1) rs ≡ x
 passes now before j js k r rs x s fit same e =
     let f = follows now before j js s in
     let on : is_next_job now before r ≡ true = ap (is_next_job now before) same ∙ follower_is_next now before j fit f in
     let says : job_in r ≡ j = ap job_in same ∙ said now j f.open_at fit in
-    ap (λ i. wrong_later now (before ++ (i ∷ [])) (k + 1) rs) (sym says) ∙ (sym (later_on now before k r rs on) ∙ e)
+    ap (λ i. first_wrong_later now (before ++ (i ∷ [])) (k + 1) rs) (sym says) ∙ (sym (later_on now before k r rs on) ∙ e)
 
 -- no record of jobs that can be open together is wrong, nor any blank one after them
-pub never_wrong : (now : ℕ) (before js : List Job) (n k i : ℕ) (rs : List (List ℕ)) → Standing now (before ++ js) → All Sized js → take (suc i) rs ≡ take (suc i) (later_of js n)
-    → wrong_later now before k rs ≡ Some (k + i) → ⊥
+pub never_wrong : (now : ℕ) (before js : List Job) (n k i : ℕ) (rs : List (List ℕ)) → Standing now (before ++ js) → All IsSizedJob js → take (suc i) rs ≡ take (suc i) (later_of js n)
+    → first_wrong_later now before k rs ≡ Some (k + i) → ⊥
 never_wrong now before js n k i [] s fit same e = cc
 never_wrong now before (j ∷ js) n k zero (r ∷ rs) s fit same e =
     let here : r ≡ job_record j = cc in
-    let found = within now (before ++ (j ∷ [])) (k + 1) rs (k + 0) (passes now before j js k r rs (Some (k + 0)) s (All-head Sized j js fit) here e) in
+    let found = within now (before ++ (j ∷ [])) (k + 1) rs (k + 0) (passes now before j js k r rs (Some (k + 0)) s (All-head IsSizedJob j js fit) here e) in
     omega (arith, found.2)
 never_wrong now before (j ∷ js) n k (suc i) (r ∷ rs) s fit same e =
     let here : r ≡ job_record j = cc in
     let behind : take (suc i) rs ≡ take (suc i) (later_of js n) = cc in
     let number : k + suc i ≡ k + 1 + i = omega arith in
-    never_wrong now (before ++ (j ∷ [])) js n (k + 1) i rs (subst (Standing now) (sym (append_assoc before (j ∷ []) js)) s) (All-tail Sized j js fit) behind
-    (passes now before j js k r rs (Some (k + 1 + i)) s (All-head Sized j js fit) here (e ∙ ap (λ x. Some x) number))
+    never_wrong now (before ++ (j ∷ [])) js n (k + 1) i rs (subst (Standing now) (sym (append_assoc before (j ∷ []) js)) s) (All-tail IsSizedJob j js fit) behind
+    (passes now before j js k r rs (Some (k + 1 + i)) s (All-head IsSizedJob j js fit) here (e ∙ ap (λ x. Some x) number))
 never_wrong now before [] zero k i (r ∷ rs) s fit same e = cc
 never_wrong now before [] (suc n) k i (r ∷ rs) s fit same e =
     let here : r ≡ blank_record = cc in
     let off : is_next_job now before r ≡ false = ap (is_next_job now before) here ∙ blank_stops now before in
-    let found = place_of k (position filled (r ∷ rs)) (k + i) (sym (later_blank now before k r rs off) ∙ e) in
+    let found = index_of k (position filled (r ∷ rs)) (k + i) (sym (later_blank now before k r rs off) ∙ e) in
     let at : found.0 ≡ i = omega (arith, found.2) in
     let is_filled = (position-Some filled (r ∷ rs) found.0 blank_record found.1).1 in
     both_ways (filled (get_or (r ∷ rs) found.0 blank_record)) (blank_at (suc n) i found.0 (r ∷ rs) same (omega arith)) is_filled
@@ -157,19 +157,19 @@ none_or_some None never = refl
 none_or_some (Some x) never = absurd (never x refl)
 
 -- so the search finds none in a book's records
-pub none_wrong : (now : ℕ) (before js : List Job) (n k : ℕ) → Standing now (before ++ js) → All Sized js → wrong_later now before k (later_of js n) ≡ None
+pub none_wrong : (now : ℕ) (before js : List Job) (n k : ℕ) → Standing now (before ++ js) → All IsSizedJob js → first_wrong_later now before k (later_of js n) ≡ None
 none_wrong now before js n k s fit =
-    none_or_some (wrong_later now before k (later_of js n)) (λ x e.
+    none_or_some (first_wrong_later now before k (later_of js n)) (λ x e.
     let found = within now before k (later_of js n) x e in
     never_wrong now before js n k found.0 (later_of js n) s fit refl (e ∙ ap (λ x. Some x) (sym found.2)))
 
 -- the jobs that a book's records say are the book's
-pub jobs_back : (now : ℕ) (js : List Job) (n : ℕ) → All (OpenAt now) js → All Sized js → jobs_of (later_of js n) ≡ js
+pub jobs_back : (now : ℕ) (js : List Job) (n : ℕ) → All (IsOpenAt now) js → All IsSizedJob js → jobs_of (later_of js n) ≡ js
 jobs_back now [] zero o s = refl
 jobs_back now [] (suc n) o s = jobs_of_none blank_record (replicate n blank_record) refl
 jobs_back now (j ∷ js) n o s =
-    let here = said now j (All-head (OpenAt now) j js o) (All-head Sized j js s) in
-    let rest = jobs_back now js n (All-tail (OpenAt now) j js o) (All-tail Sized j js s) in
+    let here = said now j (All-head (IsOpenAt now) j js o) (All-head IsSizedJob j js s) in
+    let rest = jobs_back now js n (All-tail (IsOpenAt now) j js o) (All-tail IsSizedJob j js s) in
     jobs_of_more (job_record j) (later_of js n) refl ∙ (λ i. here i ∷ rest i)
 
 -- where no record is filled, all are blank
@@ -194,7 +194,7 @@ blank_before i rs e =
 pub record Showing (now : ℕ) (before : List Job) (rs : List (List ℕ)) : Type 0 where
   pub jobs : List Job
   pub standing : Standing now (before ++ jobs)
-  pub fit : All Sized jobs
+  pub fit : All IsSizedJob jobs
   pub few : length jobs ≤ length rs
   pub form : rs ≡ later_of jobs (length rs - length jobs)
 
@@ -202,14 +202,14 @@ pub record Showing (now : ℕ) (before : List Job) (rs : List (List ℕ)) : Type
 showing_blank : (now : ℕ) (before : List Job) (rs : List (List ℕ)) (n : ℕ) → Standing now before → rs ≡ replicate n blank_record → Showing now before rs
 showing_blank now before rs n s e =
     let long : length rs ≡ n = ap length e ∙ length-replicate n blank_record in
-    record { jobs = []; standing = subst (Standing now) (sym (append-nil before)) s; fit = All-nil Sized; few = omega arith; form = e ∙ ap (λ n. replicate n blank_record) (omega (arith, long)) }
+    record { jobs = []; standing = subst (Standing now) (sym (append-nil before)) s; fit = All-nil IsSizedJob; few = omega arith; form = e ∙ ap (λ n. replicate n blank_record) (omega (arith, long)) }
 
 -- the record of one job more
 showing_more : (now : ℕ) (before : List Job) (r : List ℕ) (rs : List (List ℕ)) → r ≡ job_record (job_in r) → Showing now (before ++ (job_in r ∷ [])) rs → Showing now before (r ∷ rs)
 showing_more now before r rs e s = record {
   jobs = job_in r ∷ s.jobs;
   standing = subst (Standing now) (append_assoc before (job_in r ∷ []) s.jobs) s.standing;
-  fit = All-cons Sized (job_in r) s.jobs (sized r e) s.fit;
+  fit = All-cons IsSizedJob (job_in r) s.jobs (sized r e) s.fit;
   few = omega (arith, s.few);
   form =
       let count : length rs - length s.jobs ≡ suc (length rs) - suc (length s.jobs) = omega arith in
@@ -218,7 +218,7 @@ showing_more now before r rs e s = record {
 }
 
 -- the records before the wrong one show such jobs
-pub begins : (now : ℕ) (before : List Job) (k i : ℕ) (rs : List (List ℕ)) → Standing now before → wrong_later now before k rs ≡ Some (k + i) → Showing now before (take i rs)
+pub begins : (now : ℕ) (before : List Job) (k i : ℕ) (rs : List (List ℕ)) → Standing now before → first_wrong_later now before k rs ≡ Some (k + i) → Showing now before (take i rs)
 begins now before k zero rs s e = showing_blank now before [] 0 s refl
 begins now before k (suc i) [] s e = absurd (cc)
 begins now before k (suc i) (r ∷ rs) s e = elim (cases_Bool (is_next_job now before r)) [
@@ -228,7 +228,7 @@ begins now before k (suc i) (r ∷ rs) s e = elim (cases_Bool (is_next_job now b
       showing_more now before r (take i rs) parts.0
       (begins now (before ++ (job_in r ∷ [])) (k + 1) i rs (standing_push now before (job_in r) s parts.1) (sym (later_on now before k r rs t) ∙ (e ∙ ap (λ x. Some x) number)))
   | inr f ↦
-      let found = place_of k (position filled (r ∷ rs)) (k + suc i) (sym (later_blank now before k r rs f) ∙ e) in
+      let found = index_of k (position filled (r ∷ rs)) (k + suc i) (sym (later_blank now before k r rs f) ∙ e) in
       let at : found.0 ≡ suc i = omega (arith, found.2) in
       showing_blank now before (take (suc i) (r ∷ rs)) (suc i) s (subst (λ n. take n (r ∷ rs) ≡ replicate n blank_record) at (blank_before found.0 (r ∷ rs) found.1))
 ]
@@ -239,7 +239,7 @@ not_found p [] none = refl
 not_found p (x ∷ xs) none = let rest = not_found p xs in grind (arith, nat_tests)
 
 -- where none is wrong, all records do
-pub shows_all : (now : ℕ) (before : List Job) (k : ℕ) (rs : List (List ℕ)) → Standing now before → wrong_later now before k rs ≡ None → Showing now before rs
+pub shows_all : (now : ℕ) (before : List Job) (k : ℕ) (rs : List (List ℕ)) → Standing now before → first_wrong_later now before k rs ≡ None → Showing now before rs
 shows_all now before k [] s e = showing_blank now before [] 0 s refl
 shows_all now before k (r ∷ rs) s e = elim (cases_Bool (is_next_job now before r)) [
   | inl t ↦

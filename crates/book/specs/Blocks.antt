@@ -2,7 +2,7 @@
 use Rattle.std.specs.Prelude.{ℕ, ◌+◌, ◌++◌, if◌then◌else◌, List, length, map, drop, Some, None, Ok, Err, Option, Result, nat_lt}
 use Rattle.schedule.specs.InForce.{horizon}
 use Rattle.schedule.specs.Blocks.{blocks, Block as Critical}
-use Rattle.planner.specs.declared.blocks.Block.{Block as FromNow}
+use Rattle.planner.specs.declared.blocks.RelativeBlock.{RelativeBlock as FromNow}
 use Rattle.book.specs.declared.blocks.Block.{Block}
 use Rattle.book.specs.declared.fault.BookFault.{BookFault}
 use Rattle.book.specs.declared.fault.BookFault.TheVariants.{Short}
@@ -14,8 +14,8 @@ abbrev pub told_block : ℕ → Critical → Block
 told_block now c = record { speed = (c.load, c.size); start = now + c.first; end = now + c.past }
 
 -- a block of the planner, whose ticks count from now
-abbrev pub from_now : ℕ → FromNow → Block
-from_now now b = record { speed = b.speed; start = now + b.from; end = now + b.to }
+abbrev pub block_in_time : ℕ → FromNow → Block
+block_in_time now b = record { speed = b.speed; start = now + b.from; end = now + b.to }
 
 -- the critical blocks of a book, in the order of the rounds
 abbrev pub blocks_of : View → List Block
@@ -31,9 +31,9 @@ abbrev pub blocks_fault : List Block → Option BookFault
 blocks_fault list = if nat_lt (length list) 64 then Some (Short 64) else None
 
 -- a call that is not refused writes the blocks into the first places of the list, and answers how many there are
-abbrev pub blocking : Option BookFault → View → List Block → Blocking
-blocking (Some fault) b list = record { answer = Err fault; list = list }
-blocking None b list = record { answer = Ok (length (blocks_of b)); list = blocks_of b ++ drop (length (blocks_of b)) list }
+abbrev pub blocks_outcome_by : Option BookFault → View → List Block → Blocking
+blocks_outcome_by (Some fault) b list = record { answer = Err fault; list = list }
+blocks_outcome_by None b list = record { answer = Ok (length (blocks_of b)); list = blocks_of b ++ drop (length (blocks_of b)) list }
 
-abbrev pub blocked : View → List Block → Blocking
-blocked b list = blocking (blocks_fault list) b list
+abbrev pub blocks_outcome : View → List Block → Blocking
+blocks_outcome b list = blocks_outcome_by (blocks_fault list) b list

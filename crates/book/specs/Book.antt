@@ -18,7 +18,7 @@ abbrev pub last_tick : ℕ
 last_tick = 281474976710655
 
 -- a job as it can be open at now
-pub record OpenAt (now : ℕ) (j : Job) : Type 0 where
+pub record IsOpenAt (now : ℕ) (j : Job) : Type 0 where
   pub some_ticket : 0 < j.ticket
   pub work_left : 0 < j.work
   pub not_due : now < j.deadline
@@ -28,22 +28,22 @@ pub record OpenAt (now : ℕ) (j : Job) : Type 0 where
   pub short_window : j.deadline ≤ j.arrival + 256
 
 -- jobs in the order of serving
-abbrev pub InOrder : List Job → Type 0
-InOrder jobs = AllPairs (λ j k. is_before j k ≡ true) jobs
+abbrev pub IsInOrder : List Job → Type 0
+IsInOrder jobs = AllPairs (λ j k. is_before j k ≡ true) jobs
 
 -- a well-formed book: lawful, but for overload
-pub record WellFormed (b : View) : Type 0 where
+pub record IsWellFormed (b : View) : Type 0 where
   pub in_time : b.now ≤ last_tick
   pub top_positive : 1 ≤ b.top
   pub top_within : b.top ≤ 255
   pub few : length b.jobs ≤ 64
   pub tickets_differ : AllPairs (λ j k. j.ticket ≢ k.ticket) b.jobs
-  pub in_order : InOrder b.jobs
-  pub jobs_open : All (OpenAt b.now) b.jobs
+  pub in_order : IsInOrder b.jobs
+  pub jobs_open : All (IsOpenAt b.now) b.jobs
 
 -- a lawful book
-pub record Lawful (b : View) : Type 0 where
-  pub well_formed : WellFormed b
+pub record IsLawful (b : View) : Type 0 where
+  pub well_formed : IsWellFormed b
   pub none_overloaded : NoneOverloaded horizon (demands b.now b.jobs) b.top
 
 -- an empty book
@@ -51,5 +51,5 @@ abbrev pub empty_book : (now top : ℕ) → View
 empty_book now top = record { now = now; top = top; jobs = [] }
 
 -- a book with other open jobs
-abbrev pub with_jobs : List Job → View → View
-with_jobs jobs b = record { now = b.now; top = b.top; jobs = jobs }
+abbrev pub book_with_jobs : List Job → View → View
+book_with_jobs jobs b = record { now = b.now; top = b.top; jobs = jobs }

@@ -9,9 +9,9 @@ use Rattle.book.specs.declared.fault.BookFault.{BookFault}
 use Rattle.book.specs.declared.fault.BookFault.TheVariants.{Field, TicketOpen, Full, Overload, NotOpen}
 use Rattle.book.specs.declared.fault.BookField.{BookField}
 use Rattle.book.specs.declared.fault.BookField.TheVariants.{Ticket, Arrival, Deadline, Work, Start, Top}
-use Rattle.book.specs.Jobs.{is_open, with_job, without}
+use Rattle.book.specs.Jobs.{is_ticket_open, jobs_with, jobs_without}
 use Rattle.book.specs.Demands.{demands}
-use Rattle.book.specs.Book.{View, last_tick, empty_book, with_jobs}
+use Rattle.book.specs.Book.{View, last_tick, empty_book, book_with_jobs}
 
 -- what a call answers, and the book that it leaves
 pub record Outcome : Type 0 where
@@ -35,16 +35,16 @@ open_fault start top =
     if top == 0 || nat_lt 255 top then Some (Field Top) else None
 
 -- open sets now and the top, and empties the book
-abbrev pub opened : View → (start top : ℕ) → Outcome
-opened b start top = outcome (open_fault start top) b (empty_book start top)
+abbrev pub open_outcome : View → (start top : ℕ) → Outcome
+open_outcome b start top = outcome (open_fault start top) b (empty_book start top)
 
 -- why a strike is refused
 abbrev pub strike_fault : View → ℕ → Option BookFault
-strike_fault b ticket = if is_open ticket b.jobs then None else Some (NotOpen ticket)
+strike_fault b ticket = if is_ticket_open ticket b.jobs then None else Some (NotOpen ticket)
 
 -- a strike closes the open job with the ticket
-abbrev pub struck : View → ℕ → Outcome
-struck b ticket = outcome (strike_fault b ticket) b (with_jobs (without ticket b.jobs) b)
+abbrev pub strike_outcome : View → ℕ → Outcome
+strike_outcome b ticket = outcome (strike_fault b ticket) b (book_with_jobs (jobs_without ticket b.jobs) b)
 
 -- the first field of an offered job that has a value it can't have
 abbrev pub field_fault : ℕ → Job → Option BookField
@@ -57,7 +57,7 @@ field_fault now j =
 -- why an offered job finds no place: its ticket, or all places are taken
 abbrev pub place_fault : List Job → Job → Option BookFault
 place_fault jobs j =
-    if is_open j.ticket jobs then Some (TicketOpen j.ticket) else
+    if is_ticket_open j.ticket jobs then Some (TicketOpen j.ticket) else
     if nat_le 64 (length jobs) then Some (Full 64) else None
 
 -- why an offer is refused before it is looked at for overload
@@ -65,25 +65,25 @@ abbrev pub early_fault : View → Job → Option BookFault
 early_fault b j = option_or (option_map Field (field_fault b.now j)) (place_fault b.jobs j)
 
 -- the first overloaded interval of a book, in ticks from now
-abbrev pub overload_in : View → Option (ℕ × ℕ)
-overload_in b = first_overload b.top (demands b.now b.jobs) 0 horizon
+abbrev pub first_overload_of : View → Option (ℕ × ℕ)
+first_overload_of b = first_overload b.top (demands b.now b.jobs) 0 horizon
 
 -- the fault of an interval names its ticks and the work inside
-abbrev pub overload_at : View → (ℕ × ℕ) → BookFault
-overload_at b ab = Overload (b.now + ab.0) (b.now + ab.1) (work (demands b.now b.jobs) ab.0 ab.1)
+abbrev pub overload_fault_at : View → (ℕ × ℕ) → BookFault
+overload_fault_at b ab = Overload (b.now + ab.0) (b.now + ab.1) (work (demands b.now b.jobs) ab.0 ab.1)
 
 -- why a book is not lawful: it has an overloaded interval
 abbrev pub overload_fault : View → Option BookFault
-overload_fault b = option_map (overload_at b) (overload_in b)
+overload_fault b = option_map (overload_fault_at b) (first_overload_of b)
 
 -- the book with the offered job counted as open
-abbrev pub counted : View → Job → View
-counted b j = with_jobs (with_job j b.jobs) b
+abbrev pub book_with_job : View → Job → View
+book_with_job b j = book_with_jobs (jobs_with j b.jobs) b
 
 -- why an offer is refused
 abbrev pub offer_fault : View → Job → Option BookFault
-offer_fault b j = option_or (early_fault b j) (overload_fault (counted b j))
+offer_fault b j = option_or (early_fault b j) (overload_fault (book_with_job b j))
 
 -- an offer adds the job to the open ones
-abbrev pub offered : View → Job → Outcome
-offered b j = outcome (offer_fault b j) b (counted b j)
+abbrev pub offer_outcome : View → Job → Outcome
+offer_outcome b j = outcome (offer_fault b j) b (book_with_job b j)

@@ -4,22 +4,22 @@ use Rattle.std.specs.List.{range_with_len, flat_map, list_all}
 use Rattle.std.specs.Option.{option_map, option_or}
 use Rattle.layout.specs.BigEndian.{part}
 use Rattle.layout.specs.Layout.{ticket_of, arrival_of, deadline_of, work_of}
-use Rattle.layout.specs.Writing.{fields_out}
+use Rattle.layout.specs.Writing.{record_bytes}
 use Rattle.book.specs.declared.job.Job.{Job}
 use Rattle.book.specs.declared.fault.BookFault.{BookFault}
 use Rattle.book.specs.declared.fault.BookFault.TheVariants.{Short, Image}
-use Rattle.book.specs.Jobs.{is_before, is_open}
+use Rattle.book.specs.Jobs.{is_before, is_ticket_open}
 use Rattle.book.specs.Book.{View, last_tick}
-use Rattle.book.specs.Calls.{Outcome, answer_of, outcome, overload_in}
+use Rattle.book.specs.Calls.{Outcome, answer_of, outcome, first_overload_of}
 use Rattle.book.specs.Settings.{Listing}
 
 -- the record of now and the top: now stands where a job has its arrival (bytes 4 to 9), and the top where it has its work (16 and 17)
 abbrev pub clock_record : (now top : ℕ) → List ℕ
-clock_record now top = fields_out 0x43 0 now 0 top (replicate 6 0)
+clock_record now top = record_bytes 0x43 0 now 0 top (replicate 6 0)
 
 -- the record of an open job
 abbrev pub job_record : Job → List ℕ
-job_record j = fields_out 0x4a j.ticket j.arrival j.deadline j.work (replicate 6 0)
+job_record j = record_bytes 0x4a j.ticket j.arrival j.deadline j.work (replicate 6 0)
 
 -- a record that stands for no job
 abbrev pub blank_record : List ℕ
@@ -38,8 +38,8 @@ abbrev pub length_fault : List ℕ → Option BookFault
 length_fault list = if nat_lt (length list) 1560 then Some (Short 1560) else None
 
 -- save writes the image into the first places of the list, or is refused and leaves it
-abbrev pub saved : View → List ℕ → Listing
-saved b list = record {
+abbrev pub save_outcome : View → List ℕ → Listing
+save_outcome b list = record {
   answer = answer_of (length_fault list);
   list = if nat_lt (length list) 1560 then list else image b ++ drop 1560 list;
 }
@@ -82,32 +82,32 @@ is_clock r = bytes_eq r (clock_record (arrival_of r) (work_of r)) && (nat_le 1 (
 abbrev pub is_next_job : (now : ℕ) (before : List Job) → List ℕ → Bool
 is_next_job now before r =
     let j = job_in r in
-    bytes_eq r (job_record j) && (can_be_open now j && (list_all (λ k. is_before k j) before && not (is_open j.ticket before)))
+    bytes_eq r (job_record j) && (can_be_open now j && (list_all (λ k. is_before k j) before && not (is_ticket_open j.ticket before)))
 
 -- the number of the first record that is not blank, of the records from number k on
-abbrev pub not_blank : (k : ℕ) → List (List ℕ) → Option ℕ
-not_blank k rs = option_map (λ i. k + i) (position (λ r. not (bytes_eq r blank_record)) rs)
+abbrev pub first_not_blank : (k : ℕ) → List (List ℕ) → Option ℕ
+first_not_blank k rs = option_map (λ i. k + i) (position (λ r. not (bytes_eq r blank_record)) rs)
 
 -- the number of the first record that is wrong, of the records from number k on, which stand after those of the jobs before:
 -- as long as they are next jobs they go to the jobs before, and the rest has to be blank
-abbrev pub wrong_later : (now : ℕ) (before : List Job) (k : ℕ) → List (List ℕ) → Option ℕ
-wrong_later now before k [] = None
-wrong_later now before k (r ∷ rs) =
-    if is_next_job now before r then wrong_later now (before ++ (job_in r ∷ [])) (k + 1) rs else not_blank k (r ∷ rs)
+abbrev pub first_wrong_later : (now : ℕ) (before : List Job) (k : ℕ) → List (List ℕ) → Option ℕ
+first_wrong_later now before k [] = None
+first_wrong_later now before k (r ∷ rs) =
+    if is_next_job now before r then first_wrong_later now (before ++ (job_in r ∷ [])) (k + 1) rs else first_not_blank k (r ∷ rs)
 
 -- the number of the first record of a list that is wrong
-abbrev pub wrong_record : List ℕ → Option ℕ
-wrong_record list =
-    if is_clock (record_in list 0) then wrong_later (arrival_of (record_in list 0)) [] 1 (later_records list) else Some 0
+abbrev pub first_wrong : List ℕ → Option ℕ
+first_wrong list =
+    if is_clock (record_in list 0) then first_wrong_later (arrival_of (record_in list 0)) [] 1 (later_records list) else Some 0
 
 -- an overload is told as the number after the last record
 abbrev pub overload_record : View → Option ℕ
-overload_record b = option_map (λ ab. 65) (overload_in b)
+overload_record b = option_map (λ ab. 65) (first_overload_of b)
 
 -- why an image is not loaded
 abbrev pub load_fault : List ℕ → Option BookFault
-load_fault list = option_or (length_fault list) (option_map Image (option_or (wrong_record list) (overload_record (book_in list))))
+load_fault list = option_or (length_fault list) (option_map Image (option_or (first_wrong list) (overload_record (book_in list))))
 
 -- load makes the book that of an image
-abbrev pub loaded : View → List ℕ → Outcome
-loaded b list = outcome (load_fault list) b (book_in list)
+abbrev pub load_outcome : View → List ℕ → Outcome
+load_outcome b list = outcome (load_fault list) b (book_in list)

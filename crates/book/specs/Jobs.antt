@@ -12,13 +12,13 @@ abbrev pub has_ticket : ℕ → Job → Bool
 has_ticket t j = j.ticket == t
 
 -- whether one of the jobs has it
-abbrev pub is_open : ℕ → List Job → Bool
-is_open t jobs = list_any (has_ticket t) jobs
+abbrev pub is_ticket_open : ℕ → List Job → Bool
+is_ticket_open t jobs = list_any (has_ticket t) jobs
 
 -- the jobs with one more, which goes right before the first that is served after it
-abbrev pub with_job : Job → List Job → List Job
-with_job j jobs = insert jobs (position_or_len (is_before j) jobs) j
+abbrev pub jobs_with : Job → List Job → List Job
+jobs_with j jobs = insert jobs (position_or_len (is_before j) jobs) j
 
 -- the jobs without those of the ticket
-abbrev pub without : ℕ → List Job → List Job
-without t jobs = filter (λ j. not (has_ticket t j)) jobs
+abbrev pub jobs_without : ℕ → List Job → List Job
+jobs_without t jobs = filter (λ j. not (has_ticket t j)) jobs

@@ -6,21 +6,21 @@ use Rattle.book.specs.declared.job.Job.{Job}
 use Rattle.book.specs.declared.fault.BookFault.{BookFault}
 use Rattle.book.specs.declared.fault.BookFault.TheVariants.{Image}
 use Rattle.book.specs.Demands.{demands}
-use Rattle.book.specs.Book.{View, WellFormed, Lawful}
-use Rattle.book.specs.Images.{image, loaded}
+use Rattle.book.specs.Book.{View, IsWellFormed, IsLawful}
+use Rattle.book.specs.Images.{image, load_outcome}
 
 -- a job whose ticket and work have the sizes of the code's fields
-pub record Sized (j : Job) : Type 0 where
+pub record IsSizedJob (j : Job) : Type 0 where
   pub ticket : j.ticket < 2 ^ 16
   pub work : j.work < 2 ^ 16
 
 -- the job at the place, if there is one, has these sizes
-abbrev pub SizedAt : ℕ → List Job → Type 0
-SizedAt place jobs = (d : Job) → place < length jobs → Sized (slice_index_or jobs place d)
+abbrev pub IsSizedAt : ℕ → List Job → Type 0
+IsSizedAt index jobs = (d : Job) → index < length jobs → IsSizedJob (slice_index_or jobs index d)
 
 -- a book of such jobs
-abbrev pub AllSized : View → Type 0
-AllSized b = All Sized b.jobs
+abbrev pub AreSized : View → Type 0
+AreSized b = All IsSizedJob b.jobs
 
 -- the first bytes of the list are the image of the book
 abbrev pub Shows : List ℕ → View → Type 0
@@ -28,27 +28,27 @@ Shows list b = take 1560 list ≡ image b
 
 -- some well-formed book has an image with the same first k records as the list
 abbrev pub CanBegin : ℕ → List ℕ → Type 0
-CanBegin k list = (b : View) × WellFormed b × AllSized b × (take (24 * k) list ≡ take (24 * k) (image b))
+CanBegin k list = (b : View) × IsWellFormed b × AreSized b × (take (24 * k) list ≡ take (24 * k) (image b))
 
 -- the record k is the first that no image of a well-formed book has after those before it
-pub record FirstWrong (k : ℕ) (list : List ℕ) : Type 0 where
+pub record IsFirstWrong (k : ℕ) (list : List ℕ) : Type 0 where
   pub before : CanBegin k list
   pub none_with : CanBegin (k + 1) list → ⊥
 
 -- what an answer of load, and the book afterwards, tell of a list that is long enough
 pub record OnlyImages (list : List ℕ) (answer : Result (Unit {0}) BookFault) (after : View) : Type 0 where
   -- it is accepted just where it shows a lawful book
-  pub accepted : IsOk answer ↔ ((b : View) × Lawful b × AllSized b × Shows list b)
+  pub accepted : IsOk answer ↔ ((b : View) × IsLawful b × AreSized b × Shows list b)
   -- and the book is that one then; so an accepted image is the only one of its book: its first 1,560 bytes are the image of the book afterwards
-  pub same : (b : View) → Lawful b → AllSized b → Shows list b → after ≡ b
+  pub same : (b : View) → IsLawful b → AreSized b → Shows list b → after ≡ b
   -- the record that a refusal names is the first wrong one
-  pub named : (k : ℕ) → answer ≡ Err (Image k) → k < 65 → FirstWrong k list
+  pub named : (k : ℕ) → answer ≡ Err (Image k) → k < 65 → IsFirstWrong k list
   -- or overload alone is wrong
-  pub overloaded : answer ≡ Err (Image 65) → (b : View) × WellFormed b × AllSized b × Shows list b × (NoneOverloaded horizon (demands b.now b.jobs) b.top → ⊥)
+  pub overloaded : answer ≡ Err (Image 65) → (b : View) × IsWellFormed b × AreSized b × Shows list b × (NoneOverloaded horizon (demands b.now b.jobs) b.top → ⊥)
   -- there is no number after that
   pub numbered : (k : ℕ) → answer ≡ Err (Image k) → k < 66
 
 -- the list shows the book, and loading it gives the book back, whatever book was there
 pub record LoadsBack (list : List ℕ) (b : View) : Type 0 where
   pub shows : Shows list b
-  pub back : (before : View) → ((loaded before list).answer ≡ Ok tt) × ((loaded before list).book ≡ b)
+  pub back : (before : View) → ((load_outcome before list).answer ≡ Ok tt) × ((load_outcome before list).book ≡ b)

@@ -9,6 +9,6 @@ leading_jobs now before [] = before
 leading_jobs now before (r ∷ rs) = if is_next_job now before r then leading_jobs now (before ++ (job_in r ∷ [])) rs else before
 
 -- what is read, unless there is a fault
-abbrev pub unless : {A F : Type 0} → Option F → A → Result A F
-unless None read = Ok read
-unless (Some fault) read = Err fault
+abbrev pub ok_unless : {A F : Type 0} → Option F → A → Result A F
+ok_unless None read = Ok read
+ok_unless (Some fault) read = Err fault

@@ -4,10 +4,10 @@ use Rattle.queue.specs.declared.ready.ReadyJob.{ReadyJob}
 use Rattle.book.specs.declared.job.Job.{Job}
 
 -- the job at a place, as the queue holds it
-abbrev pub ready : ℕ → Job → ReadyJob
-ready place j = record { deadline = j.deadline; ticket = j.ticket; place = place }
+abbrev pub ready_job : ℕ → Job → ReadyJob
+ready_job index j = record { deadline = j.deadline; ticket = j.ticket; index = index }
 
 -- the jobs whose windows have begun, the first of the jobs at the place
-abbrev pub ready_from : ℕ → ℕ → List Job → List ReadyJob
-ready_from now place [] = []
-ready_from now place (j ∷ js) = cond (nat_le j.arrival now) (ready place j ∷ []) [] ++ ready_from now (place + 1) js
+abbrev pub ready_jobs : ℕ → ℕ → List Job → List ReadyJob
+ready_jobs now index [] = []
+ready_jobs now index (j ∷ js) = cond (nat_le j.arrival now) (ready_job index j ∷ []) [] ++ ready_jobs now (index + 1) js

@@ -3,7 +3,7 @@ use Rattle.std.specs.Prelude.{ℕ}
 use Rattle.refusal.specs.declared.Layer.TheVariants.{Book}
 use Rattle.refusal.specs.declared.Values.TheVariants.{Three}
 use Rattle.refusal.specs.declared.Refusal.{Refusal}
-use Rattle.refusal.specs.Told.{refused_by}
+use Rattle.refusal.specs.Told.{refusal_with}
 use Rattle.layout.specs.Refusals.{read_refusal}
 use Rattle.book.specs.declared.fault.BookFault.{BookFault}
 use Rattle.book.specs.declared.fault.BookFault.TheVariants.{Read, Field, TicketOpen, Full, Overload, NotOpen, Short, LastTick, Image}
@@ -21,11 +21,11 @@ field_number Top = 6
 -- a fault of the reader is told as the reader tells it
 abbrev pub book_refusal : BookFault → Refusal
 book_refusal (Read e) = read_refusal e
-book_refusal (Field f) = refused_by Book 5 (field_number f)
-book_refusal (TicketOpen ticket) = refused_by Book 6 ticket
-book_refusal (Full places) = refused_by Book 7 places
+book_refusal (Field f) = refusal_with Book 5 (field_number f)
+book_refusal (TicketOpen ticket) = refusal_with Book 6 ticket
+book_refusal (Full places) = refusal_with Book 7 places
 book_refusal (Overload start end work) = record { layer = Book; number = 8; values = Three start end work }
-book_refusal (NotOpen ticket) = refused_by Book 9 ticket
-book_refusal (Short needed) = refused_by Book 10 needed
-book_refusal (LastTick now) = refused_by Book 11 now
-book_refusal (Image number) = refused_by Book 13 number
+book_refusal (NotOpen ticket) = refusal_with Book 9 ticket
+book_refusal (Short needed) = refusal_with Book 10 needed
+book_refusal (LastTick now) = refusal_with Book 11 now
+book_refusal (Image number) = refusal_with Book 13 number

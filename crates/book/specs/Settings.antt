@@ -22,12 +22,12 @@ abbrev pub settings_of : View → ℕ → ℕ
 settings_of b = settings_in_force (demands b.now b.jobs)
 
 -- the list with the settings in force in its first places
-abbrev pub with_settings : View → List ℕ → List ℕ
-with_settings b list = map (settings_of b) (range_with_len 0 horizon) ++ drop horizon list
+abbrev pub list_with_settings : View → List ℕ → List ℕ
+list_with_settings b list = map (settings_of b) (range_with_len 0 horizon) ++ drop horizon list
 
 -- settings writes the settings in force into the first places of the list, or is refused and leaves it
-abbrev pub listing : View → List ℕ → Listing
-listing b list = record {
+abbrev pub settings_outcome : View → List ℕ → Listing
+settings_outcome b list = record {
   answer = answer_of (settings_fault list);
-  list = if nat_lt (length list) 256 then list else with_settings b list;
+  list = if nat_lt (length list) 256 then list else list_with_settings b list;
 }

@@ -16,15 +16,15 @@ abbrev pub shares : ℕ → ℕ → List Job → List (Job × ℕ)
 shares now u jobs = zip jobs (serve u (demands now jobs))
 
 -- a job with so many units less left
-abbrev pub worked : (Job × ℕ) → Job
-worked s = record { ticket = s.0.ticket; arrival = s.0.arrival; deadline = s.0.deadline; work = s.0.work - s.1 }
+abbrev pub job_after : (Job × ℕ) → Job
+job_after s = record { ticket = s.0.ticket; arrival = s.0.arrival; deadline = s.0.deadline; work = s.0.work - s.1 }
 
-abbrev pub entry : (Job × ℕ) → Entry
-entry s = record { ticket = s.0.ticket; units = s.1 }
+abbrev pub entry_of : (Job × ℕ) → Entry
+entry_of s = record { ticket = s.0.ticket; units = s.1 }
 
 -- an entry for each job that gets units
-abbrev pub entries : List (Job × ℕ) → List Entry
-entries ss = map entry (filter (λ s. nat_lt 0 s.1) ss)
+abbrev pub entries_of : List (Job × ℕ) → List Entry
+entries_of ss = map entry_of (filter (λ s. nat_lt 0 s.1) ss)
 
 -- whether a job has work left
 abbrev pub has_work : Job → Bool
@@ -35,12 +35,12 @@ abbrev pub shares_of : View → List (Job × ℕ)
 shares_of b = shares b.now (settings_of b 0) b.jobs
 
 -- the book one tick later: the jobs are worked on, and those with no work left close
-abbrev pub after_tick : View → View
-after_tick b = record { now = b.now + 1; top = b.top; jobs = filter has_work (map worked (shares_of b)) }
+abbrev pub book_after_tick : View → View
+book_after_tick b = record { now = b.now + 1; top = b.top; jobs = filter has_work (map job_after (shares_of b)) }
 
 -- the list with the entries in its first places
-abbrev pub with_entries : List Entry → List Entry → List Entry
-with_entries es list = es ++ drop (length es) list
+abbrev pub list_with : List Entry → List Entry → List Entry
+list_with es list = es ++ drop (length es) list
 
 -- what tick answers, the book that it leaves, and what its list holds afterwards
 pub record Ticking : Type 0 where
@@ -55,14 +55,14 @@ tick_fault b list =
     if b.now == last_tick then Some (LastTick b.now) else None
 
 -- a tick that is not refused serves the open jobs
-abbrev pub ticking : Option BookFault → View → List Entry → Ticking
-ticking (Some fault) b list = record { answer = Err fault; book = b; list = list }
-ticking None b list =
-    let es = entries (shares_of b) in
-    record { answer = Ok (record { setting = settings_of b 0; count = length es }); book = after_tick b; list = with_entries es list }
+abbrev pub tick_outcome_by : Option BookFault → View → List Entry → Ticking
+tick_outcome_by (Some fault) b list = record { answer = Err fault; book = b; list = list }
+tick_outcome_by None b list =
+    let es = entries_of (shares_of b) in
+    record { answer = Ok (record { setting = settings_of b 0; count = length es }); book = book_after_tick b; list = list_with es list }
 
-abbrev pub ticked : View → List Entry → Ticking
-ticked b list = ticking (tick_fault b list) b list
+abbrev pub tick_outcome : View → List Entry → Ticking
+tick_outcome b list = tick_outcome_by (tick_fault b list) b list
 
 -- the units of the entries that a served tick wrote add up to its setting
 abbrev pub GivesSetting : Result Served BookFault → List Entry → Type 0

@@ -4,7 +4,7 @@ ghost use Rattle.schedule.specs.InForce.{horizon};
 ghost use Rattle.schedule.specs.Theory.{Blocked};
 ghost use Rattle.book.specs.Demands.{demands};
 ghost use Rattle.book.specs.Book.{last_tick};
-ghost use Rattle.book.specs.Blocks.{from_now, blocked};
+ghost use Rattle.book.specs.Blocks.{block_in_time, blocks_outcome};
 
 use super::book::Book;
 use super::demands::demands_of;
@@ -25,9 +25,9 @@ pub struct Block {
 
 impl Block {
     // A block of the planner, whose ticks count from now.
-    fn from_now(block: &planner::Block, now: u64) -> Block
+    fn from_now(block: &planner::RelativeBlock, now: u64) -> Block
         requires { now ≤ last_tick }
-        ensures { result ≡ from_now now block.now }
+        ensures { result ≡ block_in_time now block.now }
     {
         Block {
             speed: block.speed,
@@ -38,14 +38,14 @@ impl Block {
 }
 
 // Writes blocks of the planner into the first places of the list, and answers how many there are.
-fn write(blocks: &[planner::Block], now: u64, list: &mut [Block]) -> usize
+fn write(blocks: &[planner::RelativeBlock], now: u64, list: &mut [Block]) -> usize
     requires in_time { now ≤ last_tick }
     requires room { length blocks.now ≤ length list.old }
-    ensures list { list.new ≡ map (from_now now) blocks.now ++ drop (length blocks.now) list.old }
+    ensures list { list.new ≡ map (block_in_time now) blocks.now ++ drop (length blocks.now) list.old }
     ensures count { result ≡ length blocks.now }
 {
-    for (place, block) in blocks.iter().enumerate() {
-        list[place] = Block::from_now(block, now);
+    for (index, block) in blocks.iter().enumerate() {
+        list[index] = Block::from_now(block, now);
     }
     blocks.len()
 }
@@ -55,8 +55,8 @@ impl Book {
     ///
     /// Refuses a list of fewer than 64 places ([`BookFault::Short`]), and leaves it as it was.
     pub fn blocks(&self, list: &mut [Block]) -> Result<usize, BookFault>
-        ensures answer { result ≡ (blocked self.entry.now list.old).answer }
-        ensures list { list.new ≡ (blocked self.entry.now list.old).list }
+        ensures answer { result ≡ (blocks_outcome self.entry.now list.old).answer }
+        ensures list { list.new ≡ (blocks_outcome self.entry.now list.old).list }
         ensures critical { OnOk result (Blocked horizon (demands self.entry.now.now self.entry.now.jobs)) }
     {
         if list.len() < PLACES {

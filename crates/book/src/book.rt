@@ -19,18 +19,18 @@ pub struct Book {
 }
 
 impl Model for Book {
-    ghost use Rattle.book.specs.Book.{View, Lawful};
+    ghost use Rattle.book.specs.Book.{View, IsLawful};
 
     ghost Value = { View };
 
     ghost view = { λ b. record { now = b.tick; top = b.top; jobs = b.jobs } };
 
-    ghost invariant = { λ b. Lawful (record { now = b.tick; top = b.top; jobs = b.jobs }) };
+    ghost invariant = { λ b. IsLawful (record { now = b.tick; top = b.top; jobs = b.jobs }) };
 }
 
 impl Book {
-    ghost use Rattle.book.specs.Book.{Lawful, empty_book};
-    ghost use Rattle.book.specs.Calls.{answer_of, early_fault, opened, struck, offered};
+    ghost use Rattle.book.specs.Book.{IsLawful, empty_book};
+    ghost use Rattle.book.specs.Calls.{answer_of, early_fault, open_outcome, strike_outcome, offer_outcome};
     ghost use Rattle.book.specs.Offers.{OnlyOverload};
 
     /// An empty book, with now 0 and top 1.
@@ -61,7 +61,7 @@ impl Book {
     /// The open jobs, with their work left, by deadline, then ticket.
     pub fn jobs(&self) -> &[Job]
         ensures jobs { result.now ≡ self.now.jobs }
-        ensures lawful { Lawful self.now }
+        ensures lawful { IsLawful self.now }
     {
         self.jobs.jobs()
     }
@@ -70,8 +70,8 @@ impl Book {
     ///
     /// Refuses a start after the last tick, then a top that is not 1 to 255 ([`BookFault::Field`]).
     pub fn open(&mut self, start: u64, top: u16) -> Result<(), BookFault>
-        ensures answer { result ≡ (opened self.old start top).answer }
-        ensures after { self.new ≡ (opened self.old start top).book }
+        ensures answer { result ≡ (open_outcome self.old start top).answer }
+        ensures after { self.new ≡ (open_outcome self.old start top).book }
     {
         if start > LAST_TICK {
             return Err(BookFault::Field(BookField::Start));
@@ -90,13 +90,13 @@ impl Book {
     /// Refuses a ticket that no open job has ([`BookFault::NotOpen`]).
     #[tactic(auto, using(crate::proofs::Striking::struck_missed, crate::proofs::Striking::struck_found))]
     pub fn strike(&mut self, ticket: u16) -> Result<(), BookFault>
-        ensures answer { result ≡ (struck self.old ticket).answer }
-        ensures after { self.new ≡ (struck self.old ticket).book }
+        ensures answer { result ≡ (strike_outcome self.old ticket).answer }
+        ensures after { self.new ≡ (strike_outcome self.old ticket).book }
     {
-        let Some(place) = self.jobs.place_of(ticket) else {
+        let Some(index) = self.jobs.index_of(ticket) else {
             return Err(BookFault::NotOpen { ticket });
         };
-        self.jobs.remove(place);
+        self.jobs.remove(index);
         Ok(())
     }
 
@@ -124,8 +124,8 @@ impl Book {
     /// - a 65th job ([`BookFault::Full`]);
     /// - a job with which an interval is overloaded ([`BookFault::Overload`]), so that no settings up to the top could do all work.
     pub fn offer(&mut self, job: Job) -> Result<(), BookFault>
-        ensures answer { result ≡ (offered self.old job).answer }
-        ensures after { self.new ≡ (offered self.old job).book }
+        ensures answer { result ≡ (offer_outcome self.old job).answer }
+        ensures after { self.new ≡ (offer_outcome self.old job).book }
         ensures only_overload { OnlyOverload self.old job result }
     {
         self.check(&job)?;

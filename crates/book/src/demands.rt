@@ -1,7 +1,7 @@
 // What the open jobs demand, seen from now.
 ghost use Rattle.std.specs.Prelude.{◌≡◌, ◌≤◌, length, All};
 ghost use Rattle.book.specs.Demands.{demands};
-ghost use Rattle.book.specs.Book.{OpenAt, InOrder};
+ghost use Rattle.book.specs.Book.{IsOpenAt, IsInOrder};
 
 use super::job::Job;
 use super::table::PLACES;
@@ -12,7 +12,7 @@ impl Job {
 
     // What the job demands, seen from now.
     fn demand(&self, now: u64) -> Demand
-        requires { OpenAt now self.now }
+        requires { IsOpenAt now self.now }
         ensures { result ≡ demand now self.now }
     {
         Demand {
@@ -30,12 +30,12 @@ pub(super) fn demands_of<'a>(
     now: u64,
 ) -> Demands<'a>
     requires few { length jobs.now ≤ 64 }
-    requires in_order { InOrder jobs.now }
-    requires open { All (OpenAt now) jobs.now }
+    requires in_order { IsInOrder jobs.now }
+    requires open { All (IsOpenAt now) jobs.now }
     ensures { result ≡ demands now jobs.now }
 {
-    for (place, job) in jobs.iter().enumerate() {
-        places[place] = job.demand(now);
+    for (index, job) in jobs.iter().enumerate() {
+        places[index] = job.demand(now);
     }
     Demands {
         list: &places[..jobs.len()],

@@ -1,7 +1,7 @@
 // The image of a book: a record of now and the top, then one for each place.
 ghost use Rattle.std.specs.Prelude.{◌≡◌, map, slice_index_or, OnOk};
 ghost use Rattle.book.specs.Images.{clock_record, job_record, blank_record};
-ghost use Rattle.book.specs.Loads.{Sized, SizedAt};
+ghost use Rattle.book.specs.Loads.{IsSizedJob, IsSizedAt};
 
 use super::book::Book;
 use super::fault::BookFault;
@@ -42,7 +42,7 @@ impl Job {
     // The record of the open job.
     pub(super) fn to_record(self) -> [u8; RECORD_LEN]
         ensures bytes { result ≡ job_record self }
-        ensures sized { Sized self }
+        ensures sized { IsSizedJob self }
     {
         let numbers = Numbers {
             ticket: self.ticket,
@@ -55,26 +55,26 @@ impl Job {
 }
 
 // The record of the place among the open jobs.
-fn place_record(jobs: &[Job], place: usize) -> [u8; RECORD_LEN]
-    ensures bytes { result ≡ slice_index_or (map job_record jobs.now) place blank_record }
-    ensures sized { SizedAt place jobs.now }
+fn record_at(jobs: &[Job], index: usize) -> [u8; RECORD_LEN]
+    ensures bytes { result ≡ slice_index_or (map job_record jobs.now) index blank_record }
+    ensures sized { IsSizedAt index jobs.now }
 {
-    match jobs.get(place) {
+    match jobs.get(index) {
         None => BLANK,
         Some(job) => job.to_record(),
     }
 }
 
 impl Book {
-    ghost use Rattle.book.specs.Images.{saved};
+    ghost use Rattle.book.specs.Images.{save_outcome};
     ghost use Rattle.book.specs.Loads.{LoadsBack};
 
     /// Writes the image of the book into the first 1560 places of the list.
     ///
     /// Refuses a list that has fewer ([`BookFault::Short`]), and leaves it as it was.
     pub fn save(&self, list: &mut [u8]) -> Result<(), BookFault>
-        ensures answer { result ≡ (saved self.entry.now list.old).answer }
-        ensures list { list.new ≡ (saved self.entry.now list.old).list }
+        ensures answer { result ≡ (save_outcome self.entry.now list.old).answer }
+        ensures list { list.new ≡ (save_outcome self.entry.now list.old).list }
         ensures loads_back { OnOk result (LoadsBack list.new self.entry.now) }
     {
         if list.len() < IMAGE_LEN {
@@ -82,9 +82,9 @@ impl Book {
         }
         list[..RECORD_LEN].copy_from_slice(&clock_record(self.tick, self.top));
         let jobs = self.jobs.jobs();
-        for place in 0..PLACES {
-            let start = (1 + place) * RECORD_LEN;
-            list[start..start + RECORD_LEN].copy_from_slice(&place_record(jobs, place));
+        for index in 0..PLACES {
+            let start = (1 + index) * RECORD_LEN;
+            list[start..start + RECORD_LEN].copy_from_slice(&record_at(jobs, index));
         }
         Ok(())
     }

@@ -3,8 +3,8 @@ ghost use Rattle.std.specs.Prelude.{◌≡◌, ◌≤◌, Some, None, [], length
 ghost use Rattle.std.specs.Option.{option_map};
 ghost use Rattle.layout.specs.Layout.{arrival_of, work_of};
 ghost use Rattle.book.specs.Book.{last_tick};
-ghost use Rattle.book.specs.Images.{job_in, is_job_record, is_clock, is_next_job, wrong_later, load_fault, book_in};
-ghost use Rattle.book.specs.Reading.{leading_jobs, unless};
+ghost use Rattle.book.specs.Images.{job_in, is_job_record, is_clock, is_next_job, first_wrong_later, load_fault, book_in};
+ghost use Rattle.book.specs.Reading.{leading_jobs, ok_unless};
 
 use super::book::Book;
 use super::fault::BookFault;
@@ -94,21 +94,21 @@ fn leading_jobs(records: &[[u8; RECORD_LEN]], now: u64) -> Table
 fn read_jobs(records: &[[u8; RECORD_LEN]], now: u64) -> Result<Table, BookFault>
     requires in_time { now ≤ last_tick }
     requires few { length records.now ≤ 64 }
-    ensures { result ≡ unless (option_map BookFault.Image (wrong_later now [] 1 records.now)) (map job_in (take_while is_job_record records.now)) }
+    ensures { result ≡ ok_unless (option_map BookFault.Image (first_wrong_later now [] 1 records.now)) (map job_in (take_while is_job_record records.now)) }
 {
     let jobs = leading_jobs(records, now);
     let count = jobs.jobs().len();
     match records[count..].iter().position(|bytes| *bytes != BLANK) {
         None => Ok(jobs),
-        Some(place) => Err(BookFault::Image {
-            number: 1 + count + place,
+        Some(index) => Err(BookFault::Image {
+            number: 1 + count + index,
         }),
     }
 }
 
 // The book that the image says.
 fn read_image(list: &[u8]) -> Result<Book, BookFault>
-    ensures { result ≡ unless (load_fault list.now) (book_in list.now) }
+    ensures { result ≡ ok_unless (load_fault list.now) (book_in list.now) }
 {
     if list.len() < IMAGE_LEN {
         return Err(BookFault::Short { needed: IMAGE_LEN });
@@ -129,7 +129,7 @@ fn read_image(list: &[u8]) -> Result<Book, BookFault>
 }
 
 impl Book {
-    ghost use Rattle.book.specs.Images.{loaded};
+    ghost use Rattle.book.specs.Images.{load_outcome};
     ghost use Rattle.book.specs.Loads.{OnlyImages};
 
     /// Makes the book the one that the image in the first 1560 places of the list says.
@@ -137,8 +137,8 @@ impl Book {
     /// Refuses a list of fewer places ([`BookFault::Short`]), then the first record that no image of a lawful book, overload allowed, has after those before
     /// it, by its number from 0, and then an overloaded interval, as number 65 ([`BookFault::Image`]). A refused call leaves the book as it was.
     pub fn load(&mut self, list: &[u8]) -> Result<(), BookFault>
-        ensures answer { result ≡ (loaded self.old list.now).answer }
-        ensures after { self.new ≡ (loaded self.old list.now).book }
+        ensures answer { result ≡ (load_outcome self.old list.now).answer }
+        ensures after { self.new ≡ (load_outcome self.old list.now).book }
         ensures only_images { 1560 ≤ length list.now → OnlyImages list.now result self.new }
     {
         *self = read_image(list)?;

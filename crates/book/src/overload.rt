@@ -3,14 +3,14 @@ ghost use Rattle.std.specs.Prelude.{◌≡◌, ◌≤◌, length, All};
 ghost use Rattle.schedule.specs.Compressed.{NonEmpty};
 ghost use Rattle.schedule.specs.InForce.{horizon};
 ghost use Rattle.schedule.specs.Overload.{starts, first_overload};
-ghost use Rattle.book.specs.Book.{OpenAt, InOrder, last_tick};
+ghost use Rattle.book.specs.Book.{IsOpenAt, IsInOrder, last_tick};
 ghost use Rattle.book.specs.Calls.{overload_fault};
 
 use super::demands::demands_of;
 use super::fault::BookFault;
 use super::job::Job;
 use super::table::PLACES;
-use planner::{Demands, NO_DEMAND, TICKS};
+use planner::{Demands, HORIZON, NO_DEMAND};
 
 // Whether a window starts at the tick.
 fn starts_at(demands: &Demands, start: u16) -> bool
@@ -25,7 +25,7 @@ fn first_overload(demands: &Demands, top: u8) -> Option<(u16, u16)>
     ensures { result ≡ first_overload top demands.now 0 horizon }
 {
     'search: {
-        for start in 0..TICKS as u16 {
+        for start in 0..HORIZON as u16 {
             if !starts_at(demands, start) {
                 continue;
             }
@@ -49,8 +49,8 @@ fn first_overload(demands: &Demands, top: u8) -> Option<(u16, u16)>
 pub(super) fn overload_fault(jobs: &[Job], now: u64, top: u8) -> Option<BookFault>
     requires in_time { now ≤ last_tick }
     requires few { length jobs.now ≤ 64 }
-    requires in_order { InOrder jobs.now }
-    requires open { All (OpenAt now) jobs.now }
+    requires in_order { IsInOrder jobs.now }
+    requires open { All (IsOpenAt now) jobs.now }
     ensures { result ≡ overload_fault (record { now = now; top = top; jobs = jobs.now }) }
 {
     let mut places = [NO_DEMAND; PLACES];

@@ -3,7 +3,7 @@ ghost use Rattle.std.specs.Prelude.{◌≡◌, ◌≤◌, length, All, OnOk};
 ghost use Rattle.schedule.specs.Certificate.{listed};
 ghost use Rattle.schedule.specs.InForce.{horizon, InForce, Same, settings_in_force};
 ghost use Rattle.book.specs.Demands.{demands};
-ghost use Rattle.book.specs.Book.{OpenAt, InOrder};
+ghost use Rattle.book.specs.Book.{IsOpenAt, IsInOrder};
 
 use super::book::Book;
 use super::demands::demands_of;
@@ -13,13 +13,13 @@ use super::table::PLACES;
 use planner::NO_DEMAND;
 
 /// How many settings are in force: one for each tick from now on.
-pub const SETTINGS: usize = planner::TICKS;
+pub const SETTINGS: usize = planner::HORIZON;
 
 // The settings in force for open jobs.
 fn settings_in_force(jobs: &[Job], now: u64) -> [u32; SETTINGS]
     requires few { length jobs.now ≤ 64 }
-    requires in_order { InOrder jobs.now }
-    requires open { All (OpenAt now) jobs.now }
+    requires in_order { IsInOrder jobs.now }
+    requires open { All (IsOpenAt now) jobs.now }
     ensures settings { Same horizon (listed result) (settings_in_force (demands now jobs.now)) }
     ensures in_force { InForce horizon (demands now jobs.now) (listed result) }
 {
@@ -28,14 +28,14 @@ fn settings_in_force(jobs: &[Job], now: u64) -> [u32; SETTINGS]
 }
 
 impl Book {
-    ghost use Rattle.book.specs.Book.{Lawful};
-    ghost use Rattle.book.specs.Settings.{settings_of, listing};
+    ghost use Rattle.book.specs.Book.{IsLawful};
+    ghost use Rattle.book.specs.Settings.{settings_of, settings_outcome};
 
     // The settings in force as bytes, which they fit since none is above the top.
     pub(super) fn setting_bytes(&self) -> [u8; SETTINGS]
         ensures settings { Same horizon (listed result) (settings_of self.now) }
         ensures in_force { InForce horizon (demands self.now.now self.now.jobs) (listed result) }
-        ensures lawful { Lawful self.now }
+        ensures lawful { IsLawful self.now }
     {
         let settings = settings_in_force(self.jobs.jobs(), self.tick);
         let mut bytes = [0; SETTINGS];
@@ -50,8 +50,8 @@ impl Book {
     ///
     /// Refuses a list that has fewer ([`BookFault::Short`]), and leaves it as it was.
     pub fn settings(&self, list: &mut [u8]) -> Result<(), BookFault>
-        ensures answer { result ≡ (listing self.entry.now list.old).answer }
-        ensures list { list.new ≡ (listing self.entry.now list.old).list }
+        ensures answer { result ≡ (settings_outcome self.entry.now list.old).answer }
+        ensures list { list.new ≡ (settings_outcome self.entry.now list.old).list }
         ensures in_force { OnOk result (InForce horizon (demands self.entry.now.now self.entry.now.jobs) (listed list.new)) }
     {
         if list.len() < SETTINGS {

@@ -1,9 +1,9 @@
 // The table of the open jobs.
 ghost use Rattle.std.specs.Prelude.{◌≡◌, ◌<◌, ◌≤◌, [], ◌∷◌, ◌++◌, length, map, position, nat_le, All};
 ghost use Rattle.std.specs.List.{filter, list_all, remove};
-ghost use Rattle.book.specs.Jobs.{is_before, has_ticket, is_open, with_job};
-ghost use Rattle.book.specs.Book.{OpenAt, InOrder};
-ghost use Rattle.book.specs.Ticks.{shares, worked, has_work, entries, with_entries};
+ghost use Rattle.book.specs.Jobs.{is_before, has_ticket, is_ticket_open, jobs_with};
+ghost use Rattle.book.specs.Book.{IsOpenAt, IsInOrder};
+ghost use Rattle.book.specs.Ticks.{shares, job_after, has_work, entries_of, list_with};
 
 use super::job::Job;
 use super::tick::{Entry, serve};
@@ -68,7 +68,7 @@ impl Table {
 
     // Whether a job has the ticket.
     pub(super) fn is_open(&self, ticket: u16) -> bool
-        ensures { result ≡ is_open ticket self.now }
+        ensures { result ≡ is_ticket_open ticket self.now }
     {
         self.jobs().iter().any(|job| job.ticket == ticket)
     }
@@ -81,7 +81,7 @@ impl Table {
     }
 
     // The place of the job with the ticket.
-    pub(super) fn place_of(&self, ticket: u16) -> Option<usize>
+    pub(super) fn index_of(&self, ticket: u16) -> Option<usize>
         ensures { result ≡ position (has_ticket ticket) self.now }
     {
         self.jobs().iter().position(|job| job.ticket == ticket)
@@ -90,16 +90,16 @@ impl Table {
     // The table with one more job, right before the first that is served after it.
     pub(super) fn with_job(&self, job: Job) -> Table
         requires { length self.now < 64 }
-        ensures { result ≡ with_job job self.now }
+        ensures { result ≡ jobs_with job self.now }
     {
-        let place = self
+        let index = self
             .jobs()
             .iter()
             .position(|other| job.is_before(other))
             .unwrap_or(self.count);
         let mut places = self.places;
-        places.copy_within(place..self.count, place + 1);
-        places[place] = job;
+        places.copy_within(index..self.count, index + 1);
+        places[index] = job;
         Table {
             places,
             count: self.count + 1,
@@ -116,22 +116,22 @@ impl Table {
     }
 
     // Removes the job at the place.
-    pub(super) fn remove(&mut self, place: usize)
-        requires { place < length self.old }
-        ensures { self.new ≡ remove self.old place }
+    pub(super) fn remove(&mut self, index: usize)
+        requires { index < length self.old }
+        ensures { self.new ≡ remove self.old index }
     {
-        self.places.copy_within(place + 1..self.count, place);
+        self.places.copy_within(index + 1..self.count, index);
         self.count -= 1;
     }
 
     // Serves the jobs at now, with an entry for each that got units, and answers how many there are.
     pub(super) fn serve(&mut self, now: u64, setting: u8, list: &mut [Entry]) -> usize
         requires room { 64 ≤ length list.old }
-        requires in_order { InOrder self.old }
-        requires open { All (OpenAt now) self.old }
-        ensures jobs { self.new ≡ map worked (shares now setting self.old) }
-        ensures list { list.new ≡ with_entries (entries (shares now setting self.old)) list.old }
-        ensures count { result ≡ length (entries (shares now setting self.old)) }
+        requires in_order { IsInOrder self.old }
+        requires open { All (IsOpenAt now) self.old }
+        ensures jobs { self.new ≡ map job_after (shares now setting self.old) }
+        ensures list { list.new ≡ list_with (entries_of (shares now setting self.old)) list.old }
+        ensures count { result ≡ length (entries_of (shares now setting self.old)) }
     {
         serve(&mut self.places[..self.count], now, setting, list)
     }
@@ -141,8 +141,8 @@ impl Table {
         ensures { self.new ≡ filter has_work self.old }
     {
         let mut count = 0;
-        for place in 0..self.count {
-            let job = self.places[place];
+        for index in 0..self.count {
+            let job = self.places[index];
             if job.work > 0 {
                 self.places[count] = job;
                 count += 1;

@@ -1,10 +1,10 @@
 // One tick: the ready jobs are served by earliest deadline, then least ticket.
 ghost use Rattle.std.specs.Prelude.{◌≡◌, ◌≤◌, length, map, min, All};
 ghost use Rattle.std.specs.List.Sorted.{IsPermutation};
-ghost use Rattle.queue.specs.Slots.{slots_of, held};
-ghost use Rattle.book.specs.Book.{OpenAt, InOrder};
-ghost use Rattle.book.specs.Ready.{ready_from};
-ghost use Rattle.book.specs.Ticks.{shares, worked, entries, with_entries, ticked, GivesSetting};
+ghost use Rattle.queue.specs.Slots.{slots_of, elements_of};
+ghost use Rattle.book.specs.Book.{IsOpenAt, IsInOrder};
+ghost use Rattle.book.specs.Ready.{ready_jobs};
+ghost use Rattle.book.specs.Ticks.{shares, job_after, entries_of, list_with, tick_outcome, GivesSetting};
 
 use super::book::Book;
 use super::fault::BookFault;
@@ -30,14 +30,14 @@ pub struct Served {
 const NO_READY_JOB: ReadyJob = ReadyJob {
     deadline: 0,
     ticket: 0,
-    place: 0,
+    index: 0,
 };
 
 impl Job {
     // Does what is left of its work, or the units if they are less, and answers how many units that took.
     fn serve(&mut self, units: u16) -> u16
         ensures units { result ≡ min self.old.work units }
-        ensures after { self.new ≡ worked (self.old, result) }
+        ensures after { self.new ≡ job_after (self.old, result) }
     {
         let done = self.work.min(units);
         self.work -= done;
@@ -48,15 +48,15 @@ impl Job {
 // The jobs whose windows have begun, in a queue in these slots.
 fn ready_jobs<'a>(slots: &'a mut [ReadyJob; PLACES], jobs: &[Job], now: u64) -> ReadyQueue<'a>
     requires { length jobs.now ≤ 64 }
-    ensures { IsPermutation (ready_from now 0 jobs.now) (held (slots_of result)) }
+    ensures { IsPermutation (ready_jobs now 0 jobs.now) (elements_of (slots_of result)) }
 {
     let mut ready = ReadyQueue::new(slots);
-    for (place, job) in jobs.iter().enumerate() {
+    for (index, job) in jobs.iter().enumerate() {
         if job.arrival <= now {
             let ready_job = ReadyJob {
                 deadline: job.deadline,
                 ticket: job.ticket,
-                place: place as u8,
+                index: index as u8,
             };
             ready.put(ready_job).unwrap();
         }
@@ -68,11 +68,11 @@ fn ready_jobs<'a>(slots: &'a mut [ReadyJob; PLACES], jobs: &[Job], now: u64) -> 
 pub(super) fn serve(jobs: &mut [Job], now: u64, setting: u8, list: &mut [Entry]) -> usize
     requires few { length jobs.old ≤ 64 }
     requires room { 64 ≤ length list.old }
-    requires in_order { InOrder jobs.old }
-    requires open { All (OpenAt now) jobs.old }
-    ensures jobs { jobs.new ≡ map worked (shares now setting jobs.old) }
-    ensures list { list.new ≡ with_entries (entries (shares now setting jobs.old)) list.old }
-    ensures count { result ≡ length (entries (shares now setting jobs.old)) }
+    requires in_order { IsInOrder jobs.old }
+    requires open { All (IsOpenAt now) jobs.old }
+    ensures jobs { jobs.new ≡ map job_after (shares now setting jobs.old) }
+    ensures list { list.new ≡ list_with (entries_of (shares now setting jobs.old)) list.old }
+    ensures count { result ≡ length (entries_of (shares now setting jobs.old)) }
 {
     let mut slots = [NO_READY_JOB; PLACES];
     let mut ready = ready_jobs(&mut slots, jobs, now);
@@ -82,7 +82,7 @@ pub(super) fn serve(jobs: &mut [Job], now: u64, setting: u8, list: &mut [Entry])
         let Some(next) = ready.take() else {
             break;
         };
-        let job = &mut jobs[usize::from(next.place)];
+        let job = &mut jobs[usize::from(next.index)];
         let units = job.serve(left);
         let ticket = job.ticket;
         list[count] = Entry { ticket, units };
@@ -100,9 +100,9 @@ impl Book {
     /// Refuses a list of fewer than 64 places ([`BookFault::Short`]), then a tick at the last tick of all ([`BookFault::LastTick`]). Both leave the
     /// list as it was.
     pub fn tick(&mut self, list: &mut [Entry]) -> Result<Served, BookFault>
-        ensures answer { result ≡ (ticked self.old list.old).answer }
-        ensures after { self.new ≡ (ticked self.old list.old).book }
-        ensures list { list.new ≡ (ticked self.old list.old).list }
+        ensures answer { result ≡ (tick_outcome self.old list.old).answer }
+        ensures after { self.new ≡ (tick_outcome self.old list.old).book }
+        ensures list { list.new ≡ (tick_outcome self.old list.old).list }
         ensures gives { GivesSetting result list.new }
     {
         if list.len() < PLACES {

@@ -10,24 +10,24 @@ use Rattle.layout.specs.declared.kind.Kind.TheVariants.{Offer, Strike, Tick}
 use Rattle.layout.specs.BigEndian.{number, bytes, part}
 use Rattle.layout.specs.Content.{Content, offer, strike, tick}
 use Rattle.layout.specs.Label.{is_label}
-use Rattle.layout.specs.Layout.{ticket_of, arrival_of, deadline_of, work_of, label_of, kind_byte, kind_of, printable, numbers_end, label_allows, allows, first_forbidden}
-use Rattle.layout.specs.Reading.{content}
-use Rattle.layout.specs.RoundTrip.{bare, Writable, OnlyForm}
-use Rattle.layout.specs.Writing.{laid_out, blank, encoded}
+use Rattle.layout.specs.Layout.{ticket_of, arrival_of, deadline_of, work_of, label_of, kind_byte, kind_of, is_printable, numbers_end, is_label_byte, is_allowed, first_forbidden}
+use Rattle.layout.specs.Reading.{content_in}
+use Rattle.layout.specs.RoundTrip.{trimmed_content, IsWritable, IsOnlyForm}
+use Rattle.layout.specs.Writing.{kind_bytes, blank_label, encoding_of}
 use Rattle.layout.proofs.BigEndian.{spelt_out, bytes-number, number_fits}
 use Rattle.layout.proofs.Labels.{label_is, label_parts, same_from_trimmed}
 use Rattle.layout.proofs.WrittenReads.{offer_parts}
 
 -- where no place is forbidden, each is allowed
-none_forbidden : (k : Kind) (i : ℕ) (bs : List ℕ) → first_forbidden k i bs ≡ None → (j m : ℕ) → m ≡ i + j → j < length bs → allows k m (get_or bs j 0) ≡ true
+none_forbidden : (k : Kind) (i : ℕ) (bs : List ℕ) → first_forbidden k i bs ≡ None → (j m : ℕ) → m ≡ i + j → j < length bs → is_allowed k m (get_or bs j 0) ≡ true
 none_forbidden k i [] e j m q h = absurd (omega arith)
 none_forbidden k i (b ∷ bs) e zero m q h = grind (arith, nat_tests)
 none_forbidden k i (b ∷ bs) e (suc j) m q h = none_forbidden k (i + 1) bs (grind (arith, nat_tests)) j m (omega arith) (omega arith)
 
-zero_there : (k : Kind) (i v : ℕ) → i < 18 → (leb 2 i && ltb i (numbers_end k)) ≡ false → allows k i v ≡ true → v ≡ 0
+zero_there : (k : Kind) (i v : ℕ) → i < 18 → (leb 2 i && ltb i (numbers_end k)) ≡ false → is_allowed k i v ≡ true → v ≡ 0
 zero_there k i v h n e = grind (arith, nat_tests)
 
-label_there : (k : Kind) (i v : ℕ) → 18 ≤ i → allows k i v ≡ true → label_allows k v ≡ true
+label_there : (k : Kind) (i v : ℕ) → 18 ≤ i → is_allowed k i v ≡ true → is_label_byte k v ≡ true
 label_there k i v h e = grind (arith, nat_tests)
 
 -- a part with one value throughout
@@ -44,10 +44,10 @@ fields b = get_or b 0 0 ∷ get_or b 1 0 ∷ (part 2 2 b ++ (part 4 6 b ++ (part
 
 -- 24 bytes of a kind, none of them forbidden
 module _ (k : Kind) (b : List ℕ) (long : length b ≡ 24) (small : (i : ℕ) → get_or b i 0 < 256) (kind : get_or b 0 0 ≡ kind_byte k) (free : first_forbidden k 1 (drop 1 b) ≡ None) where
-  allowed_at : (i : ℕ) → 1 ≤ i → i < 24 → allows k i (get_or b i 0) ≡ true
+  allowed_at : (i : ℕ) → 1 ≤ i → i < 24 → is_allowed k i (get_or b i 0) ≡ true
   allowed_at i l h =
       let at : 1 + (i - 1) ≡ i = omega arith in
-      ap (λ v. allows k i v) (ap (λ n. get_or b n 0) (sym at) ∙ sym (get_or-drop 1 b (i - 1) 0))
+      ap (λ v. is_allowed k i v) (ap (λ n. get_or b n 0) (sym at) ∙ sym (get_or-drop 1 b (i - 1) 0))
       ∙ none_forbidden k 1 (drop 1 b) free (i - 1) i (omega arith) (omega (arith, length-drop 1 b))
 
   small_part : (at i : ℕ) → get_or (drop at b) i 0 < 256
@@ -59,7 +59,7 @@ module _ (k : Kind) (b : List ℕ) (long : length b ≡ 24) (small : (i : ℕ) �
   part_fits : (at n : ℕ) → at + n ≤ 24 → number (part at n b) < 256 ^ n
   part_fits at n h = number_fits (drop at b) (small_part at) n (omega (arith, length-drop at b))
 
-  laid_fields : laid_out k (ticket_of b) (arrival_of b) (deadline_of b) (work_of b) (label_of b) ≡ b
+  laid_fields : kind_bytes k (ticket_of b) (arrival_of b) (deadline_of b) (work_of b) (label_of b) ≡ b
   laid_fields =
       let zero_one : get_or b 1 0 ≡ 0 = zero_there k 1 (get_or b 1 0) (omega arith) refl (allowed_at 1 (omega arith) (omega arith)) in
       (λ i. sym kind i ∷ sym zero_one i ∷ (part_bytes 2 2 (omega arith) i ++ (part_bytes 4 6 (omega arith) i ++ (part_bytes 10 6 (omega arith) i ++ (part_bytes 16 2 (omega arith) i ++ part 18 6 b)))))
@@ -72,23 +72,23 @@ module _ (k : Kind) (b : List ℕ) (long : length b ≡ 24) (small : (i : ℕ) �
   no_field : (at n : ℕ) → numbers_end k ≤ at → 1 ≤ at → at + n ≤ 18 → number (replicate n 0) ≡ number (part at n b)
   no_field at n e o h = sym (ap number (no_number at n e o h))
 
-  label_at : (i : ℕ) → 18 ≤ i → i < 24 → label_allows k (get_or b i 0) ≡ true
+  label_at : (i : ℕ) → 18 ≤ i → i < 24 → is_label_byte k (get_or b i 0) ≡ true
   label_at i l h = label_there k i (get_or b i 0) l (allowed_at i (omega arith) h)
 
   length_label : length (label_of b) ≡ 6
   length_label = length-take-le 6 (drop 18 b) (omega (arith, length-drop 18 b))
 
-  blank_label : ((v : ℕ) → label_allows k v ≡ true → v ≡ 0x20) → blank ≡ label_of b
-  blank_label s = sym (filled_part b 18 6 0x20 (omega arith) (λ i l q. s (get_or b i 0) (label_at i l (omega arith))))
+  label_blank : ((v : ℕ) → is_label_byte k v ≡ true → v ≡ 0x20) → blank_label ≡ label_of b
+  label_blank s = sym (filled_part b 18 6 0x20 (omega arith) (λ i l q. s (get_or b i 0) (label_at i l (omega arith))))
 
   -- a record with no number but its ticket, and a blank label
-  laid_blank : numbers_end k ≤ 4 → ((v : ℕ) → label_allows k v ≡ true → v ≡ 0x20) → laid_out k (ticket_of b) 0 0 0 blank ≡ b
+  laid_blank : numbers_end k ≤ 4 → ((v : ℕ) → is_label_byte k v ≡ true → v ≡ 0x20) → kind_bytes k (ticket_of b) 0 0 0 blank_label ≡ b
   laid_blank e s =
       let arrival = no_field 4 6 e (omega arith) (omega arith) in
       let deadline = no_field 10 6 (omega arith) (omega arith) (omega arith) in
       let work = no_field 16 2 (omega arith) (omega arith) (omega arith) in
-      let label = blank_label s in
-      (λ i. laid_out k (ticket_of b) (arrival i) (deadline i) (work i) (label i)) ∙ laid_fields
+      let label = label_blank s in
+      (λ i. kind_bytes k (ticket_of b) (arrival i) (deadline i) (work i) (label i)) ∙ laid_fields
 
 -- the content with its whole label
 abbrev whole : Kind → List ℕ → Content
@@ -96,27 +96,27 @@ whole Offer b = offer (ticket_of b) (arrival_of b) (deadline_of b) (work_of b) (
 whole Strike b = strike (ticket_of b)
 whole Tick b = tick
 
-bare_whole : (k : Kind) (b : List ℕ) → bare (whole k b) ≡ content k b
+bare_whole : (k : Kind) (b : List ℕ) → trimmed_content (whole k b) ≡ content_in k b
 bare_whole Offer b = refl
 bare_whole Strike b = refl
 bare_whole Tick b = refl
 
 module _ (b : List ℕ) (long : length b ≡ 24) (small : (i : ℕ) → get_or b i 0 < 256) where
-  encoded_whole : (k : Kind) → get_or b 0 0 ≡ kind_byte k → first_forbidden k 1 (drop 1 b) ≡ None → encoded (whole k b) ≡ b
+  encoded_whole : (k : Kind) → get_or b 0 0 ≡ kind_byte k → first_forbidden k 1 (drop 1 b) ≡ None → encoding_of (whole k b) ≡ b
   encoded_whole Offer e f = laid_fields Offer b long small e f
   encoded_whole Strike e f = laid_blank Strike b long small e f (omega arith) (λ v h. eqb-true v 0x20 h)
   encoded_whole Tick e f =
       let ticket = no_field Tick b long small e f 2 2 (omega arith) (omega arith) (omega arith) in
-      (λ i. laid_out Tick (ticket i) 0 0 0 blank) ∙ laid_blank Tick b long small e f (omega arith) (λ v h. eqb-true v 0x20 h)
+      (λ i. kind_bytes Tick (ticket i) 0 0 0 blank_label) ∙ laid_blank Tick b long small e f (omega arith) (λ v h. eqb-true v 0x20 h)
 
   label_whole : get_or b 0 0 ≡ kind_byte Offer → first_forbidden Offer 1 (drop 1 b) ≡ None → is_label (label_of b) ≡ true
   label_whole e f =
       let l = length_label Offer b long small e f in
       let at = λ (i : ℕ) (h : i < 6). get_or-take 6 (drop 18 b) i 0 h ∙ get_or-drop 18 b i 0 in
-      let each = λ (i : ℕ) (h : i < length (label_of b)). ap printable (at i (omega (arith, l))) ∙ label_at Offer b long small e f (18 + i) (omega arith) (omega (arith, l)) in
-      label_is (label_of b) true l (list_all-from_AllPass printable (label_of b) (All-from_get_or (λ v. printable v ≡ true) (label_of b) 0 each))
+      let each = λ (i : ℕ) (h : i < length (label_of b)). ap is_printable (at i (omega (arith, l))) ∙ label_at Offer b long small e f (18 + i) (omega arith) (omega (arith, l)) in
+      label_is (label_of b) true l (list_all-from_AllPass is_printable (label_of b) (All-from_get_or (λ v. is_printable v ≡ true) (label_of b) 0 each))
 
-  writable_whole : (k : Kind) → get_or b 0 0 ≡ kind_byte k → first_forbidden k 1 (drop 1 b) ≡ None → Writable (whole k b)
+  writable_whole : (k : Kind) → get_or b 0 0 ≡ kind_byte k → first_forbidden k 1 (drop 1 b) ≡ None → IsWritable (whole k b)
   writable_whole Offer e f =
       let fits = part_fits Offer b long small e f in
       let label = label_whole e f in
@@ -127,7 +127,7 @@ module _ (b : List ℕ) (long : length b ≡ 24) (small : (i : ℕ) → get_or b
   writable_whole Tick e f = (tt, refl)
 
 -- contents that the writer takes and that read back the same are the same
-same_content : (x y : Content) → Writable x → Writable y → bare x ≡ bare y → x ≡ y
+same_content : (x y : Content) → IsWritable x → IsWritable y → trimmed_content x ≡ trimmed_content y → x ≡ y
 same_content (offer t a d w l) (offer u b e v m) p q h =
     let le = (label_parts l (offer_parts a d l p.1).2).0 in
     let me = (label_parts m (offer_parts b e m q.1).2).0 in
@@ -148,11 +148,11 @@ kind_byte_lem v Strike e = grind (arith, nat_tests)
 kind_byte_lem v Tick e = grind (arith, nat_tests)
 
 -- what a reader says of 24 bytes of a kind, none of them forbidden
-pub only_form : (k : Kind) (b : List ℕ) → length b ≡ 24 → ((i : ℕ) → get_or b i 0 < 256) → Some k ≡ kind_of (get_or b 0 0) → None ≡ first_forbidden k 1 (drop 1 b) → (c : Content) → c ≡ content k b → OnlyForm (Ok (Some c)) b
+pub only_form : (k : Kind) (b : List ℕ) → length b ≡ 24 → ((i : ℕ) → get_or b i 0 < 256) → Some k ≡ kind_of (get_or b 0 0) → None ≡ first_forbidden k 1 (drop 1 b) → (c : Content) → c ≡ content_in k b → IsOnlyForm (Ok (Some c)) b
 only_form k b long small e f c is =
     let kind = kind_byte_lem (get_or b 0 0) k (sym e) in
     let ready = writable_whole b long small k kind (sym f) in
     let reads = bare_whole k b ∙ sym is in (
       (whole k b, (ready, reads)),
-      λ x w h. ap encoded (same_content x (whole k b) w ready (h ∙ sym reads)) ∙ encoded_whole b long small k kind (sym f),
+      λ x w h. ap encoding_of (same_content x (whole k b) w ready (h ∙ sym reads)) ∙ encoded_whole b long small k kind (sym f),
     )

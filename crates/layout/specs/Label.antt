@@ -1,15 +1,15 @@
 -- Labels.
 use Rattle.std.specs.Prelude.{ℕ, ◌-◌, Bool, ◌&&◌, List, [], ◌∷◌, length, take, ◌==◌, nat_eq}
 use Rattle.std.specs.List.{suffix_len, list_all}
-use Rattle.layout.specs.Layout.{printable}
+use Rattle.layout.specs.Layout.{is_printable}
 
 -- the length without the last spaces
 abbrev pub trimmed_length : List ℕ → ℕ
 trimmed_length l = length l - suffix_len (nat_eq 0x20) l
 
 -- without the last spaces
-abbrev pub trimmed : List ℕ → List ℕ
-trimmed l = take (trimmed_length l) l
+abbrev pub trimmed_label : List ℕ → List ℕ
+trimmed_label l = take (trimmed_length l) l
 
 -- the label itself, or the default text where it has no bytes
 abbrev pub shown_label : List ℕ → List ℕ → List ℕ
@@ -17,7 +17,7 @@ shown_label [] default = default
 shown_label (b ∷ bs) default = b ∷ bs
 
 abbrev pub all_printable : List ℕ → Bool
-all_printable l = list_all printable l
+all_printable l = list_all is_printable l
 
 -- six bytes that a label may hold
 abbrev pub is_label : List ℕ → Bool

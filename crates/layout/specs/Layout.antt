@@ -34,8 +34,8 @@ kind_of b =
     None))
 
 -- a label holds bytes from 20 to 7E, hexadecimal
-abbrev pub printable : ℕ → Bool
-printable b = nat_le 0x20 b && nat_le b 0x7e
+abbrev pub is_printable : ℕ → Bool
+is_printable b = nat_le 0x20 b && nat_le b 0x7e
 
 -- an offer has all numbers, a strike the ticket alone, a tick none: where the numbers of a kind end
 abbrev pub numbers_end : Kind → ℕ
@@ -44,17 +44,17 @@ numbers_end Strike = 4
 numbers_end Tick = 2
 
 -- an offer has a label of its own, the others have spaces
-abbrev pub label_allows : Kind → ℕ → Bool
-label_allows Offer b = printable b
-label_allows Strike b = b == 0x20
-label_allows Tick b = b == 0x20
+abbrev pub is_label_byte : Kind → ℕ → Bool
+is_label_byte Offer b = is_printable b
+is_label_byte Strike b = b == 0x20
+is_label_byte Tick b = b == 0x20
 
 -- whether a record of the kind may have the byte b at the place i after byte 0:
 -- any in its numbers, zero elsewhere before the label
-abbrev pub allows : Kind → ℕ → ℕ → Bool
-allows k i b = cond (nat_lt i 18) ((nat_le 2 i && nat_lt i (numbers_end k)) || b == 0) (label_allows k b)
+abbrev pub is_allowed : Kind → ℕ → ℕ → Bool
+is_allowed k i b = cond (nat_lt i 18) ((nat_le 2 i && nat_lt i (numbers_end k)) || b == 0) (is_label_byte k b)
 
 -- the first place that the layout forbids, of bytes that stand from the place i on
 abbrev pub first_forbidden : Kind → ℕ → List ℕ → Option ℕ
 first_forbidden k i [] = None
-first_forbidden k i (b ∷ bs) = cond (allows k i b) (first_forbidden k (i + 1) bs) (Some i)
+first_forbidden k i (b ∷ bs) = cond (is_allowed k i b) (first_forbidden k (i + 1) bs) (Some i)

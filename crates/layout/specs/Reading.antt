@@ -6,59 +6,59 @@ use Rattle.layout.specs.declared.fault.ReadFault.TheVariants.{Cut, UnknownKind, 
 use Rattle.layout.specs.declared.kind.Kind.{Kind}
 use Rattle.layout.specs.declared.kind.Kind.TheVariants.{Offer, Strike, Tick}
 use Rattle.layout.specs.Content.{Content, offer, strike, tick, content_of}
-use Rattle.layout.specs.Label.{trimmed}
+use Rattle.layout.specs.Label.{trimmed_label}
 use Rattle.layout.specs.Layout.{ticket_of, arrival_of, deadline_of, work_of, label_of, kind_of, first_forbidden}
 use Rattle.layout.specs.BigEndian.{part}
 
 -- what 24 bytes of a kind say
-abbrev pub content : Kind → List ℕ → Content
-content Offer b = offer (ticket_of b) (arrival_of b) (deadline_of b) (work_of b) (trimmed (label_of b))
-content Strike b = strike (ticket_of b)
-content Tick b = tick
+abbrev pub content_in : Kind → List ℕ → Content
+content_in Offer b = offer (ticket_of b) (arrival_of b) (deadline_of b) (work_of b) (trimmed_label (label_of b))
+content_in Strike b = strike (ticket_of b)
+content_in Tick b = tick
 
 -- the content, unless a place of the record is forbidden
 abbrev pub unless_forbidden : ℕ → Option ℕ → Content → Result Content ReadFault
-unless_forbidden place None c = Ok c
-unless_forbidden place (Some at) c = Err (Forbidden (place + at))
+unless_forbidden offset None c = Ok c
+unless_forbidden offset (Some at) c = Err (Forbidden (offset + at))
 
-abbrev pub parsed_as : ℕ → List ℕ → Option Kind → Result Content ReadFault
-parsed_as place b None = Err (UnknownKind place)
-parsed_as place b (Some k) = unless_forbidden place (first_forbidden k 1 (drop 1 b)) (content k b)
+abbrev pub parse_answer_by : ℕ → List ℕ → Option Kind → Result Content ReadFault
+parse_answer_by offset b None = Err (UnknownKind offset)
+parse_answer_by offset b (Some k) = unless_forbidden offset (first_forbidden k 1 (drop 1 b)) (content_in k b)
 
 -- the 24 bytes b that stand at the place
-abbrev pub parsed : ℕ → List ℕ → Result Content ReadFault
-parsed place b = parsed_as place b (kind_of (slice_index b 0))
+abbrev pub parse_answer : ℕ → List ℕ → Result Content ReadFault
+parse_answer offset b = parse_answer_by offset b (kind_of (slice_index b 0))
 
-abbrev pub one : Result Content ReadFault → Result (Option Content) ReadFault
-one (Ok c) = Ok (Some c)
-one (Err e) = Err e
+abbrev pub some_content : Result Content ReadFault → Result (Option Content) ReadFault
+some_content (Ok c) = Ok (Some c)
+some_content (Err e) = Err e
 
 -- what is read at a place of the input; none is the end
-abbrev pub read_at : List ℕ → ℕ → Result (Option Content) ReadFault
-read_at input place =
-    cond (length input - place == 0) (Ok None)
-    (cond (nat_lt (length input - place) 24) (Err (Cut place))
-    (one (parsed place (part place 24 input))))
+abbrev pub read_answer : List ℕ → ℕ → Result (Option Content) ReadFault
+read_answer input offset =
+    cond (length input - offset == 0) (Ok None)
+    (cond (nat_lt (length input - offset) 24) (Err (Cut offset))
+    (some_content (parse_answer offset (part offset 24 input))))
 
 -- the place afterwards: a whole record is passed over, good or bad; a cut one is not
-abbrev pub place_after : List ℕ → ℕ → ℕ
-place_after input place = cond (nat_lt (length input - place) 24) place (place + 24)
+abbrev pub offset_after : List ℕ → ℕ → ℕ
+offset_after input offset = cond (nat_lt (length input - offset) 24) offset (offset + 24)
 
 -- where a reader is: its input, and the place of the next record
 pub record Position : Type 0 where
   pub input : List ℕ
-  pub place : ℕ
+  pub offset : ℕ
 
 -- where it is after one record
-abbrev pub after : Position → Position
-after p = record { input = p.input; place = place_after p.input p.place }
+abbrev pub position_after : Position → Position
+position_after p = record { input = p.input; offset = offset_after p.input p.offset }
 
 -- the code's answers as plain values
-abbrev pub parsed_by : Result Record ReadFault → Result Content ReadFault
-parsed_by (Ok r) = Ok (content_of r)
-parsed_by (Err e) = Err e
+abbrev pub parse_answer_of : Result Record ReadFault → Result Content ReadFault
+parse_answer_of (Ok r) = Ok (content_of r)
+parse_answer_of (Err e) = Err e
 
-abbrev pub read_by : Result (Option Record) ReadFault → Result (Option Content) ReadFault
-read_by (Ok None) = Ok None
-read_by (Ok (Some r)) = Ok (Some (content_of r))
-read_by (Err e) = Err e
+abbrev pub read_answer_of : Result (Option Record) ReadFault → Result (Option Content) ReadFault
+read_answer_of (Ok None) = Ok None
+read_answer_of (Ok (Some r)) = Ok (Some (content_of r))
+read_answer_of (Err e) = Err e

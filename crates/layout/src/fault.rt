@@ -8,12 +8,12 @@ use refusal::{Layer, Refusal};
 #[derive(Clone, Copy, PartialEq, Eq, Debug)]
 pub enum ReadFault {
     /// 1 to 23 bytes remain, from this place on. The reader stays there.
-    Cut { place: usize },
+    Cut { offset: usize },
     /// Byte 0 of the record at this place is no kind. The reader moves on to the next record.
-    UnknownKind { place: usize },
+    UnknownKind { offset: usize },
     /// The byte at this place is the first of its record after byte 0 that the layout forbids. The reader moves
     /// on to the next record.
-    Forbidden { place: usize },
+    Forbidden { offset: usize },
 }
 
 /// The fields that the writer checks, by their numbers.
@@ -37,12 +37,12 @@ impl From<ReadFault> for Refusal {
     ghost from_gives = { λ fault refusal. refusal ≡ read_refusal fault };
 
     fn from(fault: ReadFault) -> Refusal {
-        let (number, place) = match fault {
-            ReadFault::Cut { place } => (1, place),
-            ReadFault::UnknownKind { place } => (2, place),
-            ReadFault::Forbidden { place } => (3, place),
+        let (number, offset) = match fault {
+            ReadFault::Cut { offset } => (1, offset),
+            ReadFault::UnknownKind { offset } => (2, offset),
+            ReadFault::Forbidden { offset } => (3, offset),
         };
-        Refusal::with_value(Layer::Record, number, place as u64)
+        Refusal::with_value(Layer::Record, number, offset as u64)
     }
 }
 

@@ -1,7 +1,7 @@
 // Where the fields of a record stand, its kinds, and the bytes that each kind allows.
 ghost use Rattle.std.specs.Prelude.{◌≡◌, drop};
 ghost use Rattle.std.specs.Option.{ok_or};
-ghost use Rattle.layout.specs.Layout.{kind_byte, kind_of, numbers_end, printable, allows, first_forbidden};
+ghost use Rattle.layout.specs.Layout.{kind_byte, kind_of, numbers_end, is_printable, is_allowed, first_forbidden};
 
 /// Where the ticket begins. A field ends where the next one begins.
 pub const TICKET: usize = 2;
@@ -58,7 +58,7 @@ impl TryFrom<u8> for Kind {
 
 /// Whether a label may hold the byte: 20 to 7E, hexadecimal.
 pub fn is_printable(byte: u8) -> bool
-    ensures { result ≡ printable byte }
+    ensures { result ≡ is_printable byte }
 {
     matches!(byte, b' '..=b'~')
 }
@@ -77,7 +77,7 @@ impl Kind {
 
     // Whether the layout allows the byte at a place after byte 0.
     fn allows(self, at: usize, byte: u8) -> bool
-        ensures { result ≡ allows self at byte }
+        ensures { result ≡ is_allowed self at byte }
     {
         if at < LABEL {
             (TICKET..self.numbers_end()).contains(&at) || byte == 0

@@ -5,17 +5,17 @@ use Rattle.std.specs.List.Sorted.{IsPermutation}
 use Rattle.std.proofs.lemmas.Bool.Decides.{nat_tests}
 use Rattle.std.proofs.lemmas.List.Sorted.{IsPermutation-refl}
 use Rattle.book.specs.declared.fault.BookFault.{BookFault}
-use Rattle.book.specs.Book.{View, Lawful, empty_book}
-use Rattle.book.specs.Calls.{open_fault, outcome, opened}
-use Rattle.book.specs.Images.{book_in, loaded}
+use Rattle.book.specs.Book.{View, IsLawful, empty_book}
+use Rattle.book.specs.Calls.{open_fault, outcome, open_outcome}
+use Rattle.book.specs.Images.{book_in, load_outcome}
 use Rattle.book.proofs.Images.{lawful_loaded, loaded_book}
-use Rattle.life.specs.Tally.{tally_opened, tally_loaded}
-use Rattle.life.specs.Life.{Beginning, opening, loading, begun, tally_of}
+use Rattle.life.specs.Tally.{tally_of_open, tally_of_load}
+use Rattle.life.specs.Life.{Beginning, opening, loading, beginning_outcome, tally_of}
 use Rattle.life.proofs.Rows.{loaded_open, loaded_newest, loaded_within}
 use Rattle.life.proofs.Agreeing.{Agrees}
 
 -- an empty book is lawful where its fields are as they can be
-lawful_empty : (start top : ℕ) → open_fault start top ≡ None → Lawful (empty_book start top)
+lawful_empty : (start top : ℕ) → open_fault start top ≡ None → IsLawful (empty_book start top)
 lawful_empty start top none = record {
   well_formed = record {
     in_time = grind (arith, nat_tests);
@@ -30,10 +30,10 @@ lawful_empty start top none = record {
 }
 
 -- an accepted open
-opened_agrees : (b : View) (start top : ℕ) → (opened b start top).answer ≡ Ok tt → Agrees (tally_opened start top) (opened b start top).book
+opened_agrees : (b : View) (start top : ℕ) → (open_outcome b start top).answer ≡ Ok tt → Agrees (tally_of_open start top) (open_outcome b start top).book
 opened_agrees b start top = go (open_fault start top) refl
   where
-    go : (o : Option BookFault) → open_fault start top ≡ o → (outcome o b (empty_book start top)).answer ≡ Ok tt → Agrees (tally_opened start top) (outcome o b (empty_book start top)).book
+    go : (o : Option BookFault) → open_fault start top ≡ o → (outcome o b (empty_book start top)).answer ≡ Ok tt → Agrees (tally_of_open start top) (outcome o b (empty_book start top)).book
     go None e ok = record {
       now = refl;
       top = refl;
@@ -45,11 +45,11 @@ opened_agrees b start top = go (open_fault start top) refl
     go (Some f) e ok = absurd (cc)
 
 -- an accepted load
-loaded_agrees : (b : View) (list : List ℕ) → (loaded b list).answer ≡ Ok tt → Agrees (tally_loaded list) (loaded b list).book
+loaded_agrees : (b : View) (list : List ℕ) → (load_outcome b list).answer ≡ Ok tt → Agrees (tally_of_load list) (load_outcome b list).book
 loaded_agrees b list ok =
-    let lawful : Lawful (book_in list) = lawful_loaded b list ok in
+    let lawful : IsLawful (book_in list) = lawful_loaded b list ok in
     let some : All (λ j. 0 < j.work) (book_in list).jobs = λ k d lt. (lawful.well_formed.jobs_open k d lt).work_left in
-    subst (Agrees (tally_loaded list)) (sym (loaded_book b list ok)) (record {
+    subst (Agrees (tally_of_load list)) (sym (loaded_book b list ok)) (record {
       now = refl;
       top = refl;
       same = subst (λ js. IsPermutation js (book_in list).jobs) (sym (loaded_open (book_in list).jobs some)) (IsPermutation-refl (book_in list).jobs);
@@ -58,6 +58,6 @@ loaded_agrees b list ok =
       lawful = lawful;
     })
 
-pub begun_agrees : (b : View) (beginning : Beginning) → (begun b beginning).answer ≡ Ok tt → Agrees (tally_of beginning) (begun b beginning).book
+pub begun_agrees : (b : View) (beginning : Beginning) → (beginning_outcome b beginning).answer ≡ Ok tt → Agrees (tally_of beginning) (beginning_outcome b beginning).book
 begun_agrees b (opening start top) ok = opened_agrees b start top ok
 begun_agrees b (loading list) ok = loaded_agrees b list ok

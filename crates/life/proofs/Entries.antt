@@ -12,14 +12,14 @@ use Rattle.book.specs.declared.job.Job.{Job}
 use Rattle.book.specs.declared.tick.Entry.{Entry}
 use Rattle.book.specs.Jobs.{has_ticket}
 use Rattle.book.specs.Demands.{demand}
-use Rattle.book.specs.Book.{OpenAt}
-use Rattle.book.specs.Ticks.{shares, worked, entry, entries, has_work}
+use Rattle.book.specs.Book.{IsOpenAt}
+use Rattle.book.specs.Ticks.{shares, job_after, entry_of, entries_of, has_work}
 use Rattle.book.proofs.Jobs.{AllPairs-head, AllPairs-tail}
 use Rattle.life.proofs.Reordering.{IsPermutation-filter}
 
 -- what an entry leaves of a job: units less, where it is for that job
 abbrev pub job_after : Entry → Job → Job
-job_after e j = if has_ticket e.ticket j then worked (j, e.units) else j
+job_after e j = if has_ticket e.ticket j then job_after (j, e.units) else j
 
 -- the open jobs after an entry, and after several
 abbrev pub jobs_after : Entry → List Job → List Job
@@ -51,18 +51,18 @@ jobs_after_all_permutation (e ∷ es) js ks h =
     jobs_after_all_permutation es (jobs_after e js) (jobs_after e ks) (IsPermutation-filter has_work (map (job_after e) js) (map (job_after e) ks) (IsPermutation-map (job_after e) js ks h))
 
 -- the entries of shares have the tickets of their jobs
-entries_other : (t : ℕ) (ss : List (Job × ℕ)) → All (λ s. t ≢ s.0.ticket) ss → All (λ e. t ≢ e.ticket) (entries ss)
+entries_other : (t : ℕ) (ss : List (Job × ℕ)) → All (λ s. t ≢ s.0.ticket) ss → All (λ e. t ≢ e.ticket) (entries_of ss)
 entries_other t ss others =
-    All-map (λ e. t ≢ e.ticket) entry (filter (λ s. nat_lt 0 s.1) ss) (All-filter (λ s. nat_lt 0 s.1) (λ s. t ≢ s.0.ticket) ss others)
+    All-map (λ e. t ≢ e.ticket) entry_of (filter (λ s. nat_lt 0 s.1) ss) (All-filter (λ s. nat_lt 0 s.1) (λ s. t ≢ s.0.ticket) ss others)
 
 -- and different ones, where those differ
-pub entries_differ : (ss : List (Job × ℕ)) → AllPairs (λ s r. s.0.ticket ≢ r.0.ticket) ss → AllPairs (λ e f. e.ticket ≢ f.ticket) (entries ss)
+pub entries_differ : (ss : List (Job × ℕ)) → AllPairs (λ s r. s.0.ticket ≢ r.0.ticket) ss → AllPairs (λ e f. e.ticket ≢ f.ticket) (entries_of ss)
 entries_differ [] differ = λ i j d lt below. absurd (omega arith)
 entries_differ (s ∷ ss) differ =
     let rest = entries_differ ss (AllPairs-tail (λ s r. s.0.ticket ≢ r.0.ticket) s ss differ) in
     let others = AllPairs-head (λ s r. s.0.ticket ≢ r.0.ticket) s ss differ in
     elim (cases_Bool (nat_lt 0 s.1)) [
-      | inl t ↦ rw t (AllPairs-cons (λ e f. e.ticket ≢ f.ticket) (entry s) (entries ss) (entries_other s.0.ticket ss others) rest)
+      | inl t ↦ rw t (AllPairs-cons (λ e f. e.ticket ≢ f.ticket) (entry_of s) (entries_of ss) (entries_other s.0.ticket ss others) rest)
       | inr t ↦ rw t rest
     ]
 
@@ -74,22 +74,22 @@ jobs_other t ss others = All-map (λ j. j.ticket ≢ t) (λ (s : Job × ℕ). s.
 
 -- the first of the jobs after its entry
 first_after : (s : Job × ℕ) (js : List Job) → All (λ j. j.ticket ≢ s.0.ticket) js → All (λ j. has_work j ≡ true) js
-    → jobs_after (entry s) (s.0 ∷ js) ≡ cond (has_work (worked s)) (worked s ∷ js) js
-first_after s js others works = rw (eq-eqb s.0.ticket s.0.ticket refl, jobs_after_others (entry s) js others works)
+    → jobs_after (entry_of s) (s.0 ∷ js) ≡ cond (has_work (job_after s)) (job_after s ∷ js) js
+first_after s js others works = rw (eq-eqb s.0.ticket s.0.ticket refl, jobs_after_others (entry_of s) js others works)
 
 -- a share of nothing leaves the job
-share_none : (s : Job × ℕ) → s.1 ≡ 0 → worked s ≡ s.0
+share_none : (s : Job × ℕ) → s.1 ≡ 0 → job_after s ≡ s.0
 share_none s none = let e : s.0.work - s.1 ≡ s.0.work = omega arith in λ i. record { ticket = s.0.ticket; arrival = s.0.arrival; deadline = s.0.deadline; work = e i }
 
-first_idle : (s : Job × ℕ) (js : List Job) → s.1 ≡ 0 → has_work s.0 ≡ true → s.0 ∷ js ≡ cond (has_work (worked s)) (worked s ∷ js) js
+first_idle : (s : Job × ℕ) (js : List Job) → s.1 ≡ 0 → has_work s.0 ≡ true → s.0 ∷ js ≡ cond (has_work (job_after s)) (job_after s ∷ js) js
 first_idle s js none works =
     let same = share_none s none in
-    let still : has_work (worked s) ≡ true = ap has_work same ∙ works in
+    let still : has_work (job_after s) ≡ true = ap has_work same ∙ works in
     rw still (ap (λ j. j ∷ js) (sym same))
 
 -- the entries of shares leave of their jobs what the shares leave
 pub shares_after : (ss : List (Job × ℕ)) → AllPairs (λ s r. s.0.ticket ≢ r.0.ticket) ss → All (λ s. has_work s.0 ≡ true) ss
-    → jobs_after_all (entries ss) (jobs_of ss) ≡ filter has_work (map worked ss)
+    → jobs_after_all (entries_of ss) (jobs_of ss) ≡ filter has_work (map job_after ss)
 shares_after [] differ works = refl
 shares_after (s ∷ ss) differ works =
     let others = AllPairs-head (λ s r. s.0.ticket ≢ r.0.ticket) s ss differ in
@@ -97,15 +97,15 @@ shares_after (s ∷ ss) differ works =
     let works_behind = All-tail (λ s. has_work s.0 ≡ true) s ss works in
     let js = jobs_of ss in
     let rest = shares_after ss (AllPairs-tail (λ s r. s.0.ticket ≢ r.0.ticket) s ss differ) works_behind in
-    let whole : jobs_after_all (entries ss) (cond (has_work (worked s)) (worked s ∷ js) js) ≡ filter has_work (map worked (s ∷ ss)) = elim (cases_Bool (has_work (worked s))) [
-      | inl u ↦ rw u (jobs_after_all_behind (entries ss) (worked s) js (entries_other s.0.ticket ss others) u ∙ ap (λ ks. worked s ∷ ks) rest)
+    let whole : jobs_after_all (entries_of ss) (cond (has_work (job_after s)) (job_after s ∷ js) js) ≡ filter has_work (map job_after (s ∷ ss)) = elim (cases_Bool (has_work (job_after s))) [
+      | inl u ↦ rw u (jobs_after_all_behind (entries_of ss) (job_after s) js (entries_other s.0.ticket ss others) u ∙ ap (λ ks. job_after s ∷ ks) rest)
       | inr u ↦ rw u rest
     ] in
     elim (cases_Bool (nat_lt 0 s.1)) [
       | inl t ↦
           let apart = jobs_other s.0.ticket ss others in
-          rw t (ap (jobs_after_all (entries ss)) (first_after s js apart (All-map (λ j. has_work j ≡ true) (λ (r : Job × ℕ). r.0) ss works_behind)) ∙ whole)
-      | inr t ↦ rw t (ap (jobs_after_all (entries ss)) (first_idle s js (omega (arith, ltb-false 0 s.1 t)) works_here) ∙ whole)
+          rw t (ap (jobs_after_all (entries_of ss)) (first_after s js apart (All-map (λ j. has_work j ≡ true) (λ (r : Job × ℕ). r.0) ss works_behind)) ∙ whole)
+      | inr t ↦ rw t (ap (jobs_after_all (entries_of ss)) (first_idle s js (omega (arith, ltb-false 0 s.1 t)) works_here) ∙ whole)
     ]
 
 -- an entry is for one of the jobs: one or more units, no more than its work left, and now is in its window
@@ -167,16 +167,16 @@ pub record SoundShare (now : ℕ) (s : Job × ℕ) : Type 0 where
   pub not_over : now < s.0.deadline
 
 -- the entries of such shares are for their jobs
-pub entries_for_jobs : (now : ℕ) (ss : List (Job × ℕ)) → All (SoundShare now) ss → All (ForJob now (jobs_of ss)) (entries ss)
+pub entries_for_jobs : (now : ℕ) (ss : List (Job × ℕ)) → All (SoundShare now) ss → All (ForJob now (jobs_of ss)) (entries_of ss)
 entries_for_jobs now [] sound = All-nil (ForJob now [])
 entries_for_jobs now (s ∷ ss) sound =
     let h = All-head (SoundShare now) s ss sound in
     let behind = All-weaker (ForJob now (jobs_of ss)) (ForJob now (s.0 ∷ jobs_of ss)) (λ e d. for_job_in now (jobs_of ss) (s.0 ∷ jobs_of ss) e d (contains_behind d.job s.0 (jobs_of ss) d.among))
-    (entries ss) (entries_for_jobs now ss (All-tail (SoundShare now) s ss sound)) in
+    (entries_of ss) (entries_for_jobs now ss (All-tail (SoundShare now) s ss sound)) in
     elim (cases_Bool (nat_lt 0 s.1)) [
       | inl t ↦
           let some = ltb-true 0 s.1 t in
-          let first : ForJob now (s.0 ∷ jobs_of ss) (entry s) = record {
+          let first : ForJob now (s.0 ∷ jobs_of ss) (entry_of s) = record {
             job = s.0;
             among = (0, omega arith, refl);
             same_ticket = refl;
@@ -185,7 +185,7 @@ entries_for_jobs now (s ∷ ss) sound =
             begun = h.begun some;
             not_over = h.not_over;
           } in
-          rw t (All-cons (ForJob now (s.0 ∷ jobs_of ss)) (entry s) (entries ss) first behind)
+          rw t (All-cons (ForJob now (s.0 ∷ jobs_of ss)) (entry_of s) (entries_of ss) first behind)
       | inr t ↦ rw t behind
     ]
 
@@ -209,10 +209,10 @@ pairs_shared R now u (j ∷ js) pairs =
     (all_shared (R j) now (u - g) js (AllPairs-head R j js pairs)) (pairs_shared R now (u - g) js (AllPairs-tail R j js pairs))
 
 -- and they are such shares
-pub shares_sound : (now u : ℕ) (js : List Job) → All (OpenAt now) js → All (SoundShare now) (shares now u js)
+pub shares_sound : (now u : ℕ) (js : List Job) → All (IsOpenAt now) js → All (SoundShare now) (shares now u js)
 shares_sound now u [] all = All-nil (SoundShare now)
 shares_sound now u (j ∷ js) all =
     let g = edf_given u (demand now j) in
-    let h = All-head (OpenAt now) j js all in
+    let h = All-head (IsOpenAt now) j js all in
     let first : SoundShare now (j, g) = record { enough_left = grind (arith, nat_tests); begun = λ some. grind (arith, nat_tests); not_over = h.not_due } in
-    All-cons (SoundShare now) (j, g) (shares now (u - g) js) first (shares_sound now (u - g) js (All-tail (OpenAt now) j js all))
+    All-cons (SoundShare now) (j, g) (shares now (u - g) js) first (shares_sound now (u - g) js (All-tail (IsOpenAt now) j js all))

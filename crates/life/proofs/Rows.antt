@@ -4,9 +4,9 @@ use Rattle.std.specs.List.{All, AllPairs}
 use Rattle.std.proofs.lemmas.Bool.{cases_Bool, eqb-true, eqb-false, eq-eqb, ne_eqb, lt-ltb, or_parts}
 use Rattle.std.proofs.lemmas.List.Elements.{All-nil, All-head, All-tail, All-cons, All-map, All-filter, All-weaker}
 use Rattle.book.specs.declared.job.Job.{Job}
-use Rattle.book.specs.Jobs.{is_open as is_open_job, without}
+use Rattle.book.specs.Jobs.{is_ticket_open as is_open_job, jobs_without}
 use Rattle.book.proofs.Jobs.{AllPairs-head, AllPairs-tail}
-use Rattle.life.specs.Tally.{Row, is_open, job_left, open_jobs, has_ticket, change_last, row_of, marked}
+use Rattle.life.specs.Tally.{Row, is_row_open, job_of_row, open_jobs, row_has_ticket, rows_with_last, row_of, row_struck}
 
 -- only the last row with a ticket may be open
 abbrev pub Newest : List Row → Type 0
@@ -18,18 +18,18 @@ abbrev pub Within : List Row → Type 0
 Within rows = All (λ r. r.had ≤ r.work) rows
 
 -- and so it is with one row changed, where the change keeps that
-within_changed : (k : ℕ) (change : Row → Row) (rows : List Row) → ((r : Row) → r.had ≤ r.work → (change r).had ≤ (change r).work) → Within rows → Within (change_last k change rows)
+within_changed : (k : ℕ) (change : Row → Row) (rows : List Row) → ((r : Row) → r.had ≤ r.work → (change r).had ≤ (change r).work) → Within rows → Within (rows_with_last k change rows)
 within_changed k change [] keeps within = All-nil (λ (r : Row). r.had ≤ r.work)
 within_changed k change (r ∷ rs) keeps within =
     let here = All-head (λ (q : Row). q.had ≤ q.work) r rs within in
     let behind = All-tail (λ (q : Row). q.had ≤ q.work) r rs within in
-    elim (cases_Bool (has_ticket k r)) [
+    elim (cases_Bool (row_has_ticket k r)) [
       | inl t ↦ rw t (All-cons (λ (q : Row). q.had ≤ q.work) (change r) rs (keeps r here) behind)
-      | inr t ↦ rw t (All-cons (λ (q : Row). q.had ≤ q.work) r (change_last k change rs) here (within_changed k change rs keeps behind))
+      | inr t ↦ rw t (All-cons (λ (q : Row). q.had ≤ q.work) r (rows_with_last k change rs) here (within_changed k change rs keeps behind))
     ]
 
 -- no job has the ticket
-without_none : (k : ℕ) (js : List Job) → All (λ j. j.ticket ≢ k) js → without k js ≡ js
+without_none : (k : ℕ) (js : List Job) → All (λ j. j.ticket ≢ k) js → jobs_without k js ≡ js
 without_none k [] all = refl
 without_none k (j ∷ js) all =
     let here = All-head (λ j. j.ticket ≢ k) j js all in
@@ -37,27 +37,27 @@ without_none k (j ∷ js) all =
     rw (ne_eqb j.ticket k here, rest)
 
 -- the open job of the last row with the ticket, if it is open, is the only one with it
-without_last : (k : ℕ) (r : Row) (rs : List Row) → r.ticket ≡ k → All (λ j. j.ticket ≢ r.ticket) (open_jobs rs) → without k (open_jobs (r ∷ rs)) ≡ open_jobs rs
+without_last : (k : ℕ) (r : Row) (rs : List Row) → r.ticket ≡ k → All (λ j. j.ticket ≢ r.ticket) (open_jobs rs) → jobs_without k (open_jobs (r ∷ rs)) ≡ open_jobs rs
 without_last k r rs same others =
     let rest = without_none k (open_jobs rs) (subst (λ t. All (λ j. j.ticket ≢ t) (open_jobs rs)) same others) in
-    elim (cases_Bool (is_open r)) [ inl t ↦ rw (t, eq-eqb r.ticket k same) rest | inr t ↦ rw t rest ]
+    elim (cases_Bool (is_row_open r)) [ inl t ↦ rw (t, eq-eqb r.ticket k same) rest | inr t ↦ rw t rest ]
 
 -- a row with another ticket is left
-without_other : (k : ℕ) (r : Row) (rs qs : List Row) → has_ticket k r ≡ false → open_jobs qs ≡ without k (open_jobs rs) → open_jobs (r ∷ qs) ≡ without k (open_jobs (r ∷ rs))
-without_other k r rs qs other rest = elim (cases_Bool (is_open r)) [ inl t ↦ rw (t, other) (ap (λ js. job_left r ∷ js) rest) | inr t ↦ rw t rest ]
+without_other : (k : ℕ) (r : Row) (rs qs : List Row) → row_has_ticket k r ≡ false → open_jobs qs ≡ jobs_without k (open_jobs rs) → open_jobs (r ∷ qs) ≡ jobs_without k (open_jobs (r ∷ rs))
+without_other k r rs qs other rest = elim (cases_Bool (is_row_open r)) [ inl t ↦ rw (t, other) (ap (λ js. job_of_row r ∷ js) rest) | inr t ↦ rw t rest ]
 
 -- a strike closes the open job of the ticket
-pub struck_open : (k : ℕ) (rows : List Row) → Newest rows → open_jobs (change_last k marked rows) ≡ without k (open_jobs rows)
+pub struck_open : (k : ℕ) (rows : List Row) → Newest rows → open_jobs (rows_with_last k row_struck rows) ≡ jobs_without k (open_jobs rows)
 struck_open k [] newest = refl
-struck_open k (r ∷ rs) newest = elim (cases_Bool (has_ticket k r)) [
+struck_open k (r ∷ rs) newest = elim (cases_Bool (row_has_ticket k r)) [
   | inl t ↦ rw t (sym (without_last k r rs (eqb-true r.ticket k t) newest.0))
-  | inr t ↦ rw t (without_other k r rs (change_last k marked rs) t (struck_open k rs newest.1))
+  | inr t ↦ rw t (without_other k r rs (rows_with_last k row_struck rs) t (struck_open k rs newest.1))
 ]
 
 -- and leaves only the last row with a ticket open
-pub struck_newest : (k : ℕ) (rows : List Row) → Newest rows → Newest (change_last k marked rows)
+pub struck_newest : (k : ℕ) (rows : List Row) → Newest rows → Newest (rows_with_last k row_struck rows)
 struck_newest k [] newest = tt
-struck_newest k (r ∷ rs) newest = elim (cases_Bool (has_ticket k r)) [
+struck_newest k (r ∷ rs) newest = elim (cases_Bool (row_has_ticket k r)) [
   | inl t ↦ rw t newest
   | inr t ↦
       rw t (
@@ -67,8 +67,8 @@ struck_newest k (r ∷ rs) newest = elim (cases_Bool (has_ticket k r)) [
 ]
 
 -- and gives no units
-pub struck_within : (k : ℕ) (rows : List Row) → Within rows → Within (change_last k marked rows)
-struck_within k rows within = within_changed k marked rows (λ r le. le) within
+pub struck_within : (k : ℕ) (rows : List Row) → Within rows → Within (rows_with_last k row_struck rows)
+struck_within k rows within = within_changed k row_struck rows (λ r le. le) within
 
 -- no open job has the ticket where none is found
 not_open : (t : ℕ) (js : List Job) → is_open_job t js ≡ false → All (λ j. j.ticket ≢ t) js
@@ -82,7 +82,7 @@ pub newest_new : (j : Job) (rows : List Row) → is_open_job j.ticket (open_jobs
 newest_new j rows none newest = (not_open j.ticket (open_jobs rows) none, newest)
 
 -- it has had nothing
-job_new : (j : Job) → job_left (row_of j) ≡ j
+job_new : (j : Job) → job_of_row (row_of j) ≡ j
 job_new j = let e : j.work - 0 ≡ j.work = omega arith in λ i. record { ticket = j.ticket; arrival = j.arrival; deadline = j.deadline; work = e i }
 
 -- so its job is the one that was offered

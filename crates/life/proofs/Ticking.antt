@@ -7,12 +7,12 @@ use Rattle.book.specs.declared.fault.BookFault.{BookFault}
 use Rattle.book.specs.declared.tick.Entry.{Entry}
 use Rattle.book.specs.Book.{View, last_tick}
 use Rattle.book.specs.Settings.{settings_of}
-use Rattle.book.specs.Ticks.{Ticking, entries, shares_of, after_tick, tick_fault, ticking}
+use Rattle.book.specs.Ticks.{Ticking, entries_of, shares_of, book_after_tick, tick_fault, tick_outcome_by}
 use Rattle.book.specs.Ticks as ticks
 use Rattle.book.proofs.Ticking.{gives_setting, lawful_after}
-use Rattle.life.specs.Events.{tick, served_or, written}
-use Rattle.life.specs.Tally.{Tally, with_entries, note_answer}
-use Rattle.life.specs.Promises.{Serves, TickAnswer}
+use Rattle.life.specs.Events.{tick, served_answer, entries_written}
+use Rattle.life.specs.Tally.{Tally, rows_after_entries, tally_answered}
+use Rattle.life.specs.Promises.{ServesTick, TickAnswer}
 use Rattle.life.proofs.Feeding.{Fed, fed}
 use Rattle.life.proofs.Agreeing.{Agrees, Kept}
 use Rattle.life.proofs.Standing.{in_force_same}
@@ -24,16 +24,16 @@ not_last b list none last = grind (arith, nat_tests)
 module _ (t : Tally) (b : View) (list : List Entry) (agrees : Agrees t b) where
   -- the entries of the tick, to the tally's rows
   abbrev es : List Entry
-  es = entries (shares_of b)
+  es = entries_of (shares_of b)
 
-  the_fed : Fed t es (after_tick b).jobs
+  the_fed : Fed t es (book_after_tick b).jobs
   the_fed = fed t b agrees.lawful agrees.now agrees.same agrees.newest agrees.within
 
   -- they stand in the first places of the list
   first_places : take (length es) (ticks.with_entries es list) ≡ es
   first_places = take_at es (drop (length es) list) (length es) refl
 
-  serves : Serves t b (record { setting = settings_of b 0; count = length es }) es
+  serves : ServesTick t b (record { setting = settings_of b 0; count = length es }) es
   serves = record {
     first = sym (in_force_same b 0 (omega (arith, theory.ticks)));
     whole = gives_setting b agrees.lawful;
@@ -42,7 +42,7 @@ module _ (t : Tally) (b : View) (list : List Entry) (agrees : Agrees t b) where
   }
 
   -- the tally and the book after an accepted tick
-  agrees_later : b.now ≢ last_tick → Agrees (record { now = t.now + 1; top = t.top; rows = with_entries es t.rows }) (after_tick b)
+  agrees_later : b.now ≢ last_tick → Agrees (record { now = t.now + 1; top = t.top; rows = rows_after_entries es t.rows }) (book_after_tick b)
   agrees_later more = record {
     now = ap (λ n. n + 1) agrees.now;
     top = agrees.top;
@@ -54,14 +54,14 @@ module _ (t : Tally) (b : View) (list : List Entry) (agrees : Agrees t b) where
 
   -- an answer that is as promised, and a book that agrees with the tally then
   record Answered (x : Ticking) : Type 0 where
-    serving : TickAnswer t b (served_or x.answer) (written (served_or x.answer) x.list)
-    agrees_after : Agrees (note_answer t (record { call = tick list; answer = served_or x.answer; entries = written (served_or x.answer) x.list }) (served_or x.answer)) x.book
+    serving : TickAnswer t b (served_answer x.answer) (entries_written (served_answer x.answer) x.list)
+    agrees_after : Agrees (tally_answered t (record { call = tick list; answer = served_answer x.answer; entries = entries_written (served_answer x.answer) x.list }) (served_answer x.answer)) x.book
 
-  answered : (o : Option BookFault) → tick_fault b list ≡ o → Answered (ticking o b list)
+  answered : (o : Option BookFault) → tick_fault b list ≡ o → Answered (tick_outcome_by o b list)
   answered (Some f) e = record { serving = tt; agrees_after = agrees }
   answered None e = record {
-    serving = subst (Serves t b (record { setting = settings_of b 0; count = length es })) (sym first_places) serves;
-    agrees_after = subst (λ xs. Agrees (record { now = t.now + 1; top = t.top; rows = with_entries xs t.rows }) (after_tick b)) (sym first_places) (agrees_later (not_last b list e));
+    serving = subst (ServesTick t b (record { setting = settings_of b 0; count = length es })) (sym first_places) serves;
+    agrees_after = subst (λ xs. Agrees (record { now = t.now + 1; top = t.top; rows = rows_after_entries xs t.rows }) (book_after_tick b)) (sym first_places) (agrees_later (not_last b list e));
   }
 
   pub tick_kept : Kept t b (tick list)

@@ -1,10 +1,10 @@
 -- Lives of a book.
 use Rattle.std.specs.Prelude.{◌≡◌, ℕ, List, [], ◌∷◌, ◌++◌, Ok}
 use Rattle.book.specs.Book.{View}
-use Rattle.book.specs.Calls.{Outcome, opened}
-use Rattle.book.specs.Images.{loaded}
+use Rattle.book.specs.Calls.{Outcome, open_outcome}
+use Rattle.book.specs.Images.{load_outcome}
 use Rattle.life.specs.Events.{Event, event_on, book_after}
-use Rattle.life.specs.Tally.{Tally, tally_opened, tally_loaded}
+use Rattle.life.specs.Tally.{Tally, tally_of_open, tally_of_load}
 
 -- how a life begins
 pub data Beginning : Type 0 where
@@ -12,13 +12,13 @@ pub data Beginning : Type 0 where
   loading : (list : List ℕ) → Beginning
 
 -- what the beginning answers, and the book that it leaves, where b was there before
-abbrev pub begun : View → Beginning → Outcome
-begun b (opening start top) = opened b start top
-begun b (loading list) = loaded b list
+abbrev pub beginning_outcome : View → Beginning → Outcome
+beginning_outcome b (opening start top) = open_outcome b start top
+beginning_outcome b (loading list) = load_outcome b list
 
 abbrev pub tally_of : Beginning → Tally
-tally_of (opening start top) = tally_opened start top
-tally_of (loading list) = tally_loaded list
+tally_of (opening start top) = tally_of_open start top
+tally_of (loading list) = tally_of_load list
 
 -- a life: the book before it, its beginning, and the events since, in their order
 pub record Life : Type 0 where
@@ -33,9 +33,9 @@ Leads b (e ∷ es) c = (e ≡ event_on b e.call) × Leads (book_after b e.call) 
 
 -- a life, begun by an accepted call, that ends in the book
 pub record EndsIn (life : Life) (b : View) : Type 0 where
-  pub accepted : (begun life.before life.beginning).answer ≡ Ok tt
-  pub leads : Leads (begun life.before life.beginning).book life.events b
+  pub accepted : (beginning_outcome life.before life.beginning).answer ≡ Ok tt
+  pub leads : Leads (beginning_outcome life.before life.beginning).book life.events b
 
 -- a life with one event more
-abbrev pub longer : Life → Event → Life
-longer life e = record { before = life.before; beginning = life.beginning; events = life.events ++ (e ∷ []) }
+abbrev pub life_with : Life → Event → Life
+life_with life e = record { before = life.before; beginning = life.beginning; events = life.events ++ (e ∷ []) }

@@ -4,13 +4,13 @@ use Rattle.book.specs.declared.fault.BookFault.{BookFault}
 use Rattle.book.specs.declared.tick.Entry.{Entry}
 use Rattle.book.specs.declared.tick.Served.{Served as TickServed}
 use Rattle.book.specs.Book.{View}
-use Rattle.book.specs.Calls.{Outcome, offered, struck}
-use Rattle.book.specs.Ticks.{Ticking, ticked}
+use Rattle.book.specs.Calls.{Outcome, offer_outcome, strike_outcome}
+use Rattle.book.specs.Ticks.{Ticking, tick_outcome}
 use Rattle.life.specs.declared.Request.{Request}
 use Rattle.life.specs.declared.Request.TheVariants.{Offer, Strike, Tick}
 use Rattle.life.specs.declared.Response.{Response}
 use Rattle.life.specs.declared.Response.TheVariants.{Done, Served}
-use Rattle.life.specs.Events.{Call, offer, strike, tick, Answer, done, served, refused, written, Event}
+use Rattle.life.specs.Events.{Call, offer, strike, tick, Answer, done, served, refused, entries_written, Event}
 
 -- what a request answers, the book that it leaves, and what its list holds afterwards
 pub record Handling : Type 0 where
@@ -33,10 +33,10 @@ abbrev pub by_tick : Ticking → Handling
 by_tick t = record { answer = served_by t.answer; book = t.book; list = t.list }
 
 -- an offer, a strike or a tick
-abbrev pub handled : View → Request → List Entry → Handling
-handled b (Offer j) list = by_outcome (offered b j) list
-handled b (Strike t) list = by_outcome (struck b t) list
-handled b Tick list = by_tick (ticked b list)
+abbrev pub request_outcome : View → Request → List Entry → Handling
+request_outcome b (Offer j) list = by_outcome (offer_outcome b j) list
+request_outcome b (Strike t) list = by_outcome (strike_outcome b t) list
+request_outcome b Tick list = by_tick (tick_outcome b list)
 
 -- the call of a request that brings the list
 abbrev pub call_of : Request → List Entry → Call
@@ -44,11 +44,11 @@ call_of (Offer j) list = offer j
 call_of (Strike t) list = strike t
 call_of Tick list = tick list
 
-abbrev pub answer_of : Result Response BookFault → Answer
-answer_of (Ok Done) = done
-answer_of (Ok (Served s)) = served s
-answer_of (Err fault) = refused fault
+abbrev pub request_answer : Result Response BookFault → Answer
+request_answer (Ok Done) = done
+request_answer (Ok (Served s)) = served s
+request_answer (Err fault) = refused fault
 
 -- the event that a request with the list was, which answered so and left the list like this
 abbrev pub event_of : Request → (before : List Entry) → Result Response BookFault → (after : List Entry) → Event
-event_of request before answer after = record { call = call_of request before; answer = answer_of answer; entries = written (answer_of answer) after }
+event_of request before answer after = record { call = call_of request before; answer = request_answer answer; entries = entries_written (request_answer answer) after }

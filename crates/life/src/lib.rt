@@ -14,9 +14,9 @@
 #![tactic(auto)]
 
 ghost use Rattle.std.specs.Prelude.{◌≡◌};
-ghost use Rattle.life.specs.Life.{Life, EndsIn, longer};
+ghost use Rattle.life.specs.Life.{Life, EndsIn, life_with};
 ghost use Rattle.life.specs.Promises.{Keeps};
-ghost use Rattle.life.specs.Requests.{handled, event_of};
+ghost use Rattle.life.specs.Requests.{request_outcome, event_of};
 
 use book::{Book, BookFault, Entry, Job, Served};
 
@@ -43,9 +43,9 @@ pub enum Response {
 impl Request {
     // Makes the request of the book. The law is proved of `handle` from this contract.
     fn apply(&self, book: &mut Book, list: &mut [Entry]) -> Result<Response, BookFault>
-        ensures answer { result ≡ (handled book.old self.now list.old).answer }
-        ensures after { book.new ≡ (handled book.old self.now list.old).book }
-        ensures list { list.new ≡ (handled book.old self.now list.old).list }
+        ensures answer { result ≡ (request_outcome book.old self.now list.old).answer }
+        ensures after { book.new ≡ (request_outcome book.old self.now list.old).book }
+        ensures list { list.new ≡ (request_outcome book.old self.now list.old).list }
     {
         match *self {
             Request::Offer(job) => book.offer(job)?,
@@ -63,12 +63,12 @@ impl Request {
 /// Every life that ends in the book as it was ends, with this call, in the book as it is then, and keeps the promises.
 /// The promises are `Keeps` (specs/Promises.antt).
 pub fn handle(book: &mut Book, request: &Request, list: &mut [Entry]) -> Result<Response, BookFault>
-    ensures answer { result ≡ (handled book.old request.now list.old).answer }
-    ensures after { book.new ≡ (handled book.old request.now list.old).book }
-    ensures list { list.new ≡ (handled book.old request.now list.old).list }
+    ensures answer { result ≡ (request_outcome book.old request.now list.old).answer }
+    ensures after { book.new ≡ (request_outcome book.old request.now list.old).book }
+    ensures list { list.new ≡ (request_outcome book.old request.now list.old).list }
     ensures law { (life : Life) → EndsIn life book.old →
-        EndsIn (longer life (event_of request.now list.old result list.new)) book.new
-        × Keeps (longer life (event_of request.now list.old result list.new)) }
+        EndsIn (life_with life (event_of request.now list.old result list.new)) book.new
+        × Keeps (life_with life (event_of request.now list.old result list.new)) }
 {
     request.apply(book, list)
 }

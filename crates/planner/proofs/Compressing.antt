@@ -13,7 +13,7 @@ use Rattle.schedule.specs.Compressed.{compressed, seen, NonEmpty, windows}
 use Rattle.schedule.specs.BestPair.{Pair}
 use Rattle.schedule.specs.Rounds.{between, taken, still_free, unplaced}
 use Rattle.schedule.proofs.CompressedLaws.{time_mono}
-use Rattle.planner.specs.Ticks.{free_in, marked_in}
+use Rattle.planner.specs.Ticks.{is_free_in, is_marked_in}
 
 module _ (free : ℕ → Bool) (times : List ℕ) (agree : (t : ℕ) → t ≤ 256 → listed times t ≡ compressed free t) where
   -- a demand seen by the table is seen in compressed time
@@ -37,25 +37,25 @@ and_not true b c is = ap not is
 and_not false b c is = refl
 
 -- the ticks that a round takes, and those that are free after it, by their lists
-module _ (xs : List Bool) (times : List ℕ) (p : Pair) (size : length xs ≡ 256) (agree : (t : ℕ) → t ≤ 256 → listed times t ≡ compressed (free_in xs) t)
-    (within : p.high ≤ compressed (free_in xs) 256) (marks : List Bool) where
+module _ (xs : List Bool) (times : List ℕ) (p : Pair) (size : length xs ≡ 256) (agree : (t : ℕ) → t ≤ 256 → listed times t ≡ compressed (is_free_in xs) t)
+    (within : p.high ≤ compressed (is_free_in xs) 256) (marks : List Bool) where
   -- no tick from the last one on lies in the pair
-  none_past : (t : ℕ) → 256 ≤ t → between p (compressed (free_in xs) t) ≡ false
-  none_past t le = let later = time_mono (free_in xs) 256 t le in grind (arith, nat_tests)
+  none_past : (t : ℕ) → 256 ≤ t → between p (compressed (is_free_in xs) t) ≡ false
+  none_past t le = let later = time_mono (is_free_in xs) 256 t le in grind (arith, nat_tests)
 
-  pub taken_by : length marks ≡ 256 → ((t : ℕ) → t < 256 → marked_in marks t ≡ (free_in xs t && between p (listed times t))) → marked_in marks ≡ taken (free_in xs) p
+  pub taken_by : length marks ≡ 256 → ((t : ℕ) → t < 256 → is_marked_in marks t ≡ (is_free_in xs t && between p (listed times t))) → is_marked_in marks ≡ taken (is_free_in xs) p
   taken_by long each = fun_ext (λ t. elim (cases_lt t 256) [
-    | inl lt ↦ each t lt ∙ ap (λ x. free_in xs t && between p x) (agree t (omega arith))
-    | inr le ↦ get_or_past marks t false (omega arith) ∙ sym (and_right (free_in xs t) (between p (compressed (free_in xs) t)) (none_past t le))
+    | inl lt ↦ each t lt ∙ ap (λ x. is_free_in xs t && between p x) (agree t (omega arith))
+    | inr le ↦ get_or_past marks t false (omega arith) ∙ sym (and_right (is_free_in xs t) (between p (compressed (is_free_in xs) t)) (none_past t le))
   ])
 
-  pub free_by : (ys : List Bool) → length ys ≡ 256 → marked_in marks ≡ taken (free_in xs) p → ((t : ℕ) → t < 256 → free_in ys t ≡ (free_in xs t && not (marked_in marks t)))
-      → free_in ys ≡ still_free (free_in xs) p
+  pub free_by : (ys : List Bool) → length ys ≡ 256 → is_marked_in marks ≡ taken (is_free_in xs) p → ((t : ℕ) → t < 256 → is_free_in ys t ≡ (is_free_in xs t && not (is_marked_in marks t)))
+      → is_free_in ys ≡ still_free (is_free_in xs) p
   free_by ys long is each = fun_ext (λ t. elim (cases_lt t 256) [
-    | inl lt ↦ each t lt ∙ and_not (free_in xs t) (between p (compressed (free_in xs) t)) (marked_in marks t) (ap (λ (f : ℕ → Bool). f t) is)
+    | inl lt ↦ each t lt ∙ and_not (is_free_in xs t) (between p (compressed (is_free_in xs) t)) (is_marked_in marks t) (ap (λ (f : ℕ → Bool). f t) is)
     | inr le ↦
-        let was : free_in xs t ≡ true = get_or_past xs t true (omega arith) in
-        get_or_past ys t true (omega arith) ∙ sym (and_from (free_in xs t) (not (between p (compressed (free_in xs) t))) was (ap not (none_past t le)))
+        let was : is_free_in xs t ≡ true = get_or_past xs t true (omega arith) in
+        get_or_past ys t true (omega arith) ∙ sym (and_from (is_free_in xs t) (not (between p (compressed (is_free_in xs) t))) was (ap not (none_past t le)))
   ])
 
 -- the windows of the first n demands

@@ -13,17 +13,17 @@ use Rattle.schedule.proofs.CompressedLaws.{non_empty_after, open_unplaced}
 use Rattle.schedule.proofs.RoundsEnd.{pairs_rounds, round_within}
 use Rattle.schedule.proofs.BlockFacts.{rounds_unique}
 use Rattle.schedule.proofs.Theory.{theory}
-use Rattle.planner.specs.declared.blocks.Block.{Block}
+use Rattle.planner.specs.declared.blocks.RelativeBlock.{RelativeBlock}
 use Rattle.planner.specs.Pair.{best_of}
-use Rattle.planner.specs.Ticks.{free_in, marked_in}
-use Rattle.planner.specs.Blocks.{told_block}
+use Rattle.planner.specs.Ticks.{is_free_in, is_marked_in}
+use Rattle.planner.specs.Blocks.{block_of}
 use Rattle.planner.specs.Rounds.{blocks_to_come, AreLeft}
 use Rattle.planner.proofs.Compressing.{windows_by, unplaced_by, taken_by, free_by}
 
 -- the next round takes the pair p: it ends within the horizon, and the round answers the next block and leaves what is said
 pub record Next (free : ℕ → Bool) (ds : List Demand) (p : Pair) : Type 0 where
   pub within : p.high ≤ compressed free horizon
-  pub block_is : blocks_to_come free ds ≡ told_block (block horizon free ds p) ∷ blocks_to_come (still_free free p) (unplaced (compressed free) p ds)
+  pub block_is : blocks_to_come free ds ≡ block_of (block horizon free ds p) ∷ blocks_to_come (still_free free p) (unplaced (compressed free) p ds)
   pub left : AreLeft (still_free free p) (unplaced (compressed free) p ds)
 
 left_after : (free : ℕ → Bool) (ds : List Demand) (p : Pair) → p.low < p.high → AreLeft free ds → AreLeft (still_free free p) (unplaced (compressed free) p ds)
@@ -48,54 +48,54 @@ next_round free (d ∷ ds) p left found =
     let is : q ≡ p = cc in
     subst (Next free (d ∷ ds)) is (record {
       within = round_within horizon free (d ∷ ds) q (pairs (length ds) (still_free free q) rest) rounds left.free_left left.all_open;
-      block_is = ap (λ ps. told_block (block horizon free (d ∷ ds) q) ∷ map told_block (blocks_of horizon (still_free free q) rest ps)) same;
+      block_is = ap (λ ps. block_of (block horizon free (d ∷ ds) q) ∷ map block_of (blocks_of horizon (still_free free q) rest ps)) same;
       left = after;
     })
 
 -- what the steps of a round say: of the free ticks xs, the demands ds, the table of compressed times, the pair p, the ticks that are marked,
 -- and the free ticks ys and the demands es afterwards
 pub record Steps (xs : List Bool) (ds : List Demand) (times : List ℕ) (p : Pair) (marks ys : List Bool) (es : List Demand) : Type 0 where
-  pub before : AreLeft (free_in xs) ds
+  pub before : AreLeft (is_free_in xs) ds
   pub size : length xs ≡ 256
-  pub table : (t : ℕ) → t ≤ 256 → listed times t ≡ compressed (free_in xs) t
+  pub table : (t : ℕ) → t ≤ 256 → listed times t ≡ compressed (is_free_in xs) t
   pub best : Some p ≡ best_of (map (seen (listed times)) ds)
   pub marks_long : length marks ≡ 256
-  pub marked : (t : ℕ) → t < 256 → marked_in marks t ≡ (free_in xs t && between p (listed times t))
+  pub marked : (t : ℕ) → t < 256 → is_marked_in marks t ≡ (is_free_in xs t && between p (listed times t))
   pub free_long : length ys ≡ 256
-  pub freed : (t : ℕ) → t < 256 → free_in ys t ≡ (free_in xs t && not (marked_in marks t))
+  pub freed : (t : ℕ) → t < 256 → is_free_in ys t ≡ (is_free_in xs t && not (is_marked_in marks t))
   pub placed : es ≡ unplaced (listed times) p ds
 
 module _ (xs : List Bool) (ds : List Demand) (times : List ℕ) (p : Pair) (marks ys : List Bool) (es : List Demand) (steps : Steps xs ds times p marks ys es) where
   windowed : NonEmpty 256 ds
   windowed = subst (λ n. NonEmpty n ds) theory.ticks steps.before.windowed
 
-  windows_are : map (seen (listed times)) ds ≡ windows (free_in xs) ds
-  windows_are = windows_by (free_in xs) times steps.table ds windowed
+  windows_are : map (seen (listed times)) ds ≡ windows (is_free_in xs) ds
+  windows_are = windows_by (is_free_in xs) times steps.table ds windowed
 
-  next : Next (free_in xs) ds p
-  next = next_round (free_in xs) ds p steps.before (steps.best ∙ ap best_of windows_are)
+  next : Next (is_free_in xs) ds p
+  next = next_round (is_free_in xs) ds p steps.before (steps.best ∙ ap best_of windows_are)
 
-  within : p.high ≤ compressed (free_in xs) 256
-  within = subst (λ n. p.high ≤ compressed (free_in xs) n) theory.ticks next.within
+  within : p.high ≤ compressed (is_free_in xs) 256
+  within = subst (λ n. p.high ≤ compressed (is_free_in xs) n) theory.ticks next.within
 
-  taken_are : marked_in marks ≡ taken (free_in xs) p
+  taken_are : is_marked_in marks ≡ taken (is_free_in xs) p
   taken_are = taken_by xs times p steps.size steps.table within marks steps.marks_long steps.marked
 
-  free_are : free_in ys ≡ still_free (free_in xs) p
+  free_are : is_free_in ys ≡ still_free (is_free_in xs) p
   free_are = free_by xs times p steps.size steps.table within marks ys steps.free_long taken_are steps.freed
 
-  rest_are : es ≡ unplaced (compressed (free_in xs)) p ds
-  rest_are = steps.placed ∙ unplaced_by (free_in xs) times steps.table p ds windowed
+  rest_are : es ≡ unplaced (compressed (is_free_in xs)) p ds
+  rest_are = steps.placed ∙ unplaced_by (is_free_in xs) times steps.table p ds windowed
 
-  pub steps_leave : AreLeft (free_in ys) es
+  pub steps_leave : AreLeft (is_free_in ys) es
   steps_leave = rw (free_are, rest_are) next.left
 
   -- the block that the code makes of them
-  pub steps_block : (b : Block) → b.speed ≡ (pair_work (map (seen (listed times)) ds) p, extent p) → b.from ≡ first_tick (marked_in marks) (length marks)
-      → b.to ≡ past_tick (marked_in marks) (length marks) → blocks_to_come (free_in xs) ds ≡ b ∷ blocks_to_come (free_in ys) es
+  pub steps_block : (b : RelativeBlock) → b.speed ≡ (pair_work (map (seen (listed times)) ds) p, extent p) → b.from ≡ first_tick (is_marked_in marks) (length marks)
+      → b.to ≡ past_tick (is_marked_in marks) (length marks) → blocks_to_come (is_free_in xs) ds ≡ b ∷ blocks_to_come (is_free_in ys) es
   steps_block b speed first past =
       let long : length marks ≡ horizon = steps.marks_long ∙ sym theory.ticks in
-      let speed_is : b.speed ≡ (pair_work (windows (free_in xs) ds) p, extent p) = speed ∙ ap (λ ws. (pair_work ws p, extent p)) windows_are in
-      let first_is : b.from ≡ first_tick (taken (free_in xs) p) horizon = first ∙ ap₂ first_tick taken_are long in
-      let past_is : b.to ≡ past_tick (taken (free_in xs) p) horizon = past ∙ ap₂ past_tick taken_are long in
+      let speed_is : b.speed ≡ (pair_work (windows (is_free_in xs) ds) p, extent p) = speed ∙ ap (λ ws. (pair_work ws p, extent p)) windows_are in
+      let first_is : b.from ≡ first_tick (taken (is_free_in xs) p) horizon = first ∙ ap₂ first_tick taken_are long in
+      let past_is : b.to ≡ past_tick (taken (is_free_in xs) p) horizon = past ∙ ap₂ past_tick taken_are long in
       next.block_is ∙ sym (λ i. record { speed = speed_is i; from = first_is i; to = past_is i } ∷ blocks_to_come (free_are i) (rest_are i))

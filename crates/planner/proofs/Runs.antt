@@ -11,7 +11,7 @@ use Rattle.schedule.proofs.InForceLaws.{settled_in_force}
 use Rattle.schedule.proofs.PlacingLaws.{placing_settled}
 use Rattle.schedule.proofs.Theory.{theory}
 use Rattle.planner.specs.declared.plan.Plan.{Plan}
-use Rattle.planner.specs.Plannable.{Plannable}
+use Rattle.planner.specs.Plannable.{IsPlannable}
 use Rattle.planner.specs.Plan.{state_of, HasRoom}
 
 -- where nothing is placed there is room for all units of 64 demands
@@ -51,13 +51,13 @@ pub all_run : (ds : List Demand) (i : ℕ) (st : State) → length ds ≤ i → 
 all_run ds i st le = rw (drop_all i ds le) refl
 
 -- each demand of the list has its window
-pub window : (ds : List Demand) (i : ℕ) (d : Demand) → Plannable ds → i < length ds → d ≡ get_or ds i d → Windowed 256 d
+pub window : (ds : List Demand) (i : ℕ) (d : Demand) → IsPlannable ds → i < length ds → d ≡ get_or ds i d → Windowed 256 d
 window ds i d plannable lt is = subst (λ n. Windowed n d) theory.ticks (subst (Windowed horizon) (sym is) (All-get_or (Windowed horizon) ds i d lt plannable.sound))
 
--- once all are placed, the loads are the settings in force
-module _ (ds : List Demand) (p : Plan) (plannable : Plannable ds) (done : state_of p ≡ run ds empty) where
-  pub loads_same : Same horizon (listed p.loads) (settings_in_force ds)
-  loads_same t lt = ap (λ (st : State). st.settings t) done ∙ sym (theory.planning.placed ds plannable.sound plannable.sorted t lt)
+-- once all are placed, the units are the settings in force
+module _ (ds : List Demand) (p : Plan) (plannable : IsPlannable ds) (done : state_of p ≡ run ds empty) where
+  pub units_same : Same horizon (listed p.units) (settings_in_force ds)
+  units_same t lt = ap (λ (st : State). st.settings t) done ∙ sym (theory.planning.placed ds plannable.sound plannable.sorted t lt)
 
-  pub loads_in_force : InForce horizon ds (listed p.loads)
-  loads_in_force = subst (λ (st : State). InForce horizon ds st.settings) (sym done) (settled_in_force horizon ds (placing ds) plannable.sound (placing_settled horizon ds plannable.sound plannable.sorted))
+  pub units_in_force : InForce horizon ds (listed p.units)
+  units_in_force = subst (λ (st : State). InForce horizon ds st.settings) (sym done) (settled_in_force horizon ds (placing ds) plannable.sound (placing_settled horizon ds plannable.sound plannable.sorted))

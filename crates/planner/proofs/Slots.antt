@@ -4,9 +4,9 @@ use Rattle.std.proofs.lemmas.Bool.Decides.{nat_tests}
 use Rattle.queue.specs.Slots.{Slots}
 use Rattle.queue.specs.Says.{Added, Removed, PutLeaves, TakeLeaves, Refilled}
 
-pub put_added : {X : Type 0} (x : X) (q r : Slots X) → q.count < length q.places → PutLeaves x q r → Added x q r
+pub put_added : {X : Type 0} (x : X) (q r : Slots X) → q.count < length q.slots → PutLeaves x q r → Added x q r
 put_added x q r room said =
-    let e : ltb q.count (length q.places) ≡ true = grind (arith, nat_tests) in
+    let e : ltb q.count (length q.slots) ≡ true = grind (arith, nat_tests) in
     subst (λ b. MatchBool b (Added x q r) (r ≡ q)) e said
 
 pub take_some : {X : Type 0} (before : X → X → Bool) (q r : Slots X) (answer : Option X) → 0 < q.count → TakeLeaves before q r answer → IsSome answer

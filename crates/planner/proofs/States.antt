@@ -11,7 +11,7 @@ use Rattle.planner.specs.declared.plan.Plan.{Plan}
 use Rattle.planner.specs.Plan.{state_of}
 
 -- a plan that holds the numbers of a state is that state
-pub state_same : (p : Plan) (st : State) → ((t : ℕ) → get_or p.loads t 0 ≡ st.settings t) → ((t : ℕ) → get_or p.slack t 0 ≡ st.slack t) → state_of p ≡ st
+pub state_same : (p : Plan) (st : State) → ((t : ℕ) → get_or p.units t 0 ≡ st.settings t) → ((t : ℕ) → get_or p.slack t 0 ≡ st.slack t) → state_of p ≡ st
 state_same p st loads slack = λ i. record { settings = fun_ext loads i; slack = fun_ext slack i }
 
 -- a plan of zeros has nothing placed
@@ -21,8 +21,8 @@ zero_at n t = elim (cases_lt t n) [
   | inr ge ↦ get_or_past (replicate n 0) t 0 (omega (arith, length-replicate {A = ℕ} n 0))
 ]
 
-pub zeros_empty : state_of record { loads = replicate 256 0; slack = replicate 256 0 } ≡ empty
-zeros_empty = state_same record { loads = replicate 256 0; slack = replicate 256 0 } empty (zero_at 256) (zero_at 256)
+pub zeros_empty : state_of record { units = replicate 256 0; slack = replicate 256 0 } ≡ empty
+zeros_empty = state_same record { units = replicate 256 0; slack = replicate 256 0 } empty (zero_at 256) (zero_at 256)
 
 -- one more at one place
 put_written : (xs : List ℕ) (u t : ℕ) → u < length xs → get_or (set xs u (get_or xs u 0 + 1)) t 0 ≡ put (listed xs) u t
@@ -31,9 +31,9 @@ put_written xs u t within = elim (cases_eq t u) [
   | inr other ↦ grind (arith, nat_tests, get_or-set_other xs u t (get_or xs u 0 + 1) 0 other)
 ]
 
-pub placed : (p : Plan) (f u : ℕ) (slack : List ℕ) → u < length p.loads → ((t : ℕ) → get_or slack t 0 ≡ slack_after f u (listed p.slack) t)
-    → state_of record { loads = set p.loads u (get_or p.loads u 0 + 1); slack = slack } ≡ place_at f u (state_of p)
-placed p f u slack within after = state_same record { loads = set p.loads u (get_or p.loads u 0 + 1); slack = slack } (place_at f u (state_of p)) (λ t. put_written p.loads u t within) after
+pub placed : (p : Plan) (f u : ℕ) (slack : List ℕ) → u < length p.units → ((t : ℕ) → get_or slack t 0 ≡ slack_after f u (listed p.slack) t)
+    → state_of record { units = set p.units u (get_or p.units u 0 + 1); slack = slack } ≡ place_at f u (state_of p)
+placed p f u slack within after = state_same record { units = set p.units u (get_or p.units u 0 + 1); slack = slack } (place_at f u (state_of p)) (λ t. put_written p.units u t within) after
 
 -- a part of a list, from a up to b, is written anew: g of what was at each place
 module _ (g : ℕ → ℕ) (a b : ℕ) (xs ys : List ℕ) (within : b ≤ length xs) (ab : a ≤ b) (size : length ys ≡ length (mid_of a (b - a) xs))

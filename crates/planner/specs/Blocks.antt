@@ -4,16 +4,16 @@ use Rattle.std.specs.List.{filter}
 use Rattle.schedule.specs.Demands.{Demand}
 use Rattle.schedule.specs.InForce.{horizon}
 use Rattle.schedule.specs.Blocks.{blocks, Block as Critical}
-use Rattle.planner.specs.declared.blocks.Block.{Block}
+use Rattle.planner.specs.declared.blocks.RelativeBlock.{RelativeBlock}
 
 -- a critical block as it is handed back: its exact speed as its work and its length, its first tick, and the tick after its last
-abbrev pub told_block : Critical → Block
-told_block c = record { speed = (c.load, c.size); from = c.first; to = c.past }
+abbrev pub block_of : Critical → RelativeBlock
+block_of c = record { speed = (c.load, c.size); from = c.first; to = c.past }
 
 -- the demands that have work left
 abbrev pub open_demands : List Demand → List Demand
 open_demands ds = filter (λ d. nat_lt 0 d.units) ds
 
 -- the critical blocks of the demands that have work left, in the order of the rounds
-abbrev pub critical_blocks : List Demand → List Block
-critical_blocks ds = map told_block (blocks horizon (open_demands ds))
+abbrev pub critical_blocks : List Demand → List RelativeBlock
+critical_blocks ds = map block_of (blocks horizon (open_demands ds))

@@ -4,7 +4,7 @@ use Rattle.schedule.specs.Demands.{Demand, Sound, Sorted}
 use Rattle.schedule.specs.InForce.{horizon}
 
 -- demands that settings can be made for: at most 64, with their windows, in order of deadline
-pub record Plannable (ds : List Demand) : Type 0 where
+pub record IsPlannable (ds : List Demand) : Type 0 where
   pub few : length ds ≤ 64
   pub sound : Sound horizon ds
   pub sorted : Sorted ds

@@ -5,12 +5,12 @@ use Rattle.schedule.specs.Compressed.{compressed, NonEmpty, windows}
 use Rattle.schedule.specs.Rounds.{pairs}
 use Rattle.schedule.specs.Blocks.{blocks_of}
 use Rattle.schedule.specs.InForce.{horizon}
-use Rattle.planner.specs.declared.blocks.Block.{Block}
-use Rattle.planner.specs.Blocks.{told_block}
+use Rattle.planner.specs.declared.blocks.RelativeBlock.{RelativeBlock}
+use Rattle.planner.specs.Blocks.{block_of}
 
 -- the blocks of the rounds from here on: of the demands ds, with these ticks free
-abbrev pub blocks_to_come : (ℕ → Bool) → List Demand → List Block
-blocks_to_come free ds = map told_block (blocks_of horizon free ds (pairs (length ds) free ds))
+abbrev pub blocks_to_come : (ℕ → Bool) → List Demand → List RelativeBlock
+blocks_to_come free ds = map block_of (blocks_of horizon free ds (pairs (length ds) free ds))
 
 -- what holds of the demands that are not yet placed: each has work left, and a free tick in its window
 pub record AreLeft (free : ℕ → Bool) (ds : List Demand) : Type 0 where

@@ -10,7 +10,7 @@ use std::marker::Model;
 
 /// A critical block: ticks with the same exact speed. They count from now.
 #[derive(Clone, Copy, PartialEq, Eq, Debug)]
-pub struct Block {
+pub struct RelativeBlock {
     /// The exact speed: the block's work, and its length in ticks.
     pub speed: (u32, u16),
     /// The first tick.
@@ -20,7 +20,7 @@ pub struct Block {
 }
 
 // What stands in a place that no block takes.
-const NO_BLOCK: Block = Block {
+const NO_BLOCK: RelativeBlock = RelativeBlock {
     speed: (0, 0),
     from: 0,
     to: 0,
@@ -28,36 +28,36 @@ const NO_BLOCK: Block = Block {
 
 /// Critical blocks, at most 64, in the order of the rounds.
 #[derive(Drop)]
-pub struct Blocks {
-    places: [Block; MOST_DEMANDS],
+pub struct RelativeBlocks {
+    places: [RelativeBlock; MOST_DEMANDS],
     // How many there are: they stand in the first places, and what the others hold means nothing.
     count: usize,
 }
 
-impl Model for Blocks {
+impl Model for RelativeBlocks {
     ghost use Rattle.std.specs.Prelude.{◌≤◌, List, take};
-    ghost use Rattle.planner.specs.declared.blocks.Block.{Block};
+    ghost use Rattle.planner.specs.declared.blocks.RelativeBlock.{RelativeBlock};
 
-    ghost Value = { List Block };
+    ghost Value = { List RelativeBlock };
 
     ghost view = { λ b. take b.count b.places };
 
     ghost invariant = { λ b. b.count ≤ 64 };
 }
 
-impl Blocks {
+impl RelativeBlocks {
     // No blocks.
-    fn new() -> Blocks
+    fn new() -> RelativeBlocks
         ensures { result ≡ [] }
     {
-        Blocks {
+        RelativeBlocks {
             places: [NO_BLOCK; MOST_DEMANDS],
             count: 0,
         }
     }
 
     // One block more.
-    fn push(&mut self, block: Block)
+    fn push(&mut self, block: RelativeBlock)
         requires { length self.old < 64 }
         ensures { self.new ≡ self.old ++ block ∷ [] }
     {
@@ -66,7 +66,7 @@ impl Blocks {
     }
 
     /// The blocks.
-    pub fn list(&self) -> &[Block]
+    pub fn list(&self) -> &[RelativeBlock]
         ensures blocks { result.now ≡ self.now }
         ensures few { length self.now ≤ 64 }
     {
@@ -75,12 +75,12 @@ impl Blocks {
 }
 
 /// The critical blocks of the demands that have work left.
-pub fn critical_blocks(demands: &Demands) -> Blocks
+pub fn critical_blocks(demands: &Demands) -> RelativeBlocks
     ensures blocks { result ≡ critical_blocks demands.now }
     ensures critical { Blocked horizon (open_demands demands.now) }
 {
     let mut rounds = Rounds::new(demands);
-    let mut blocks = Blocks::new();
+    let mut blocks = RelativeBlocks::new();
     while let Some(block) = rounds.next_block() {
         blocks.push(block);
     }

@@ -3,12 +3,12 @@ ghost use Rattle.std.specs.Prelude.{◌≡◌, ◌≤◌, ◌↔◌, length, IfS
 ghost use Rattle.schedule.specs.Demands.{Sorted, Sound};
 ghost use Rattle.schedule.specs.InForce.{horizon};
 ghost use Rattle.schedule.specs.Work.{inside, work};
-ghost use Rattle.planner.specs.Plannable.{Plannable};
+ghost use Rattle.planner.specs.Plannable.{IsPlannable};
 
 use std::marker::Model;
 
 /// How many ticks are planned, from now on.
-pub const TICKS: usize = 256;
+pub const HORIZON: usize = 256;
 
 /// How many demands can be planned for.
 pub const MOST_DEMANDS: usize = 64;
@@ -69,13 +69,13 @@ pub struct Demands<'a> {
 impl<'a> Model for Demands<'a> {
     ghost use Rattle.std.specs.Prelude.{List};
     ghost use Rattle.schedule.specs.Demands.{Demand as Job};
-    ghost use Rattle.planner.specs.Plannable.{Plannable};
+    ghost use Rattle.planner.specs.Plannable.{IsPlannable};
 
     ghost Value = { List Job };
 
     ghost view = { λ d. d.list.now };
 
-    ghost invariant = { λ d. Plannable d.list.now };
+    ghost invariant = { λ d. IsPlannable d.list.now };
 }
 
 // Whether each demand has its window within 256 ticks.
@@ -83,7 +83,7 @@ fn has_windows(list: &[Demand]) -> bool
     ensures { IsTrue result ↔ Sound horizon list.now }
 {
     list.iter().all(|demand| demand.units == 0
-        || demand.from < demand.to && usize::from(demand.to) <= TICKS)
+        || demand.from < demand.to && usize::from(demand.to) <= HORIZON)
 }
 
 // Whether the demands come in order of deadline.
@@ -96,7 +96,7 @@ fn is_sorted(list: &[Demand]) -> bool
 impl<'a> Demands<'a> {
     /// The demands of the list, or none where settings can't be made for them.
     pub fn new(list: &'a [Demand]) -> Option<Demands<'a>>
-        ensures some { IsSome result ↔ Plannable list.now }
+        ensures some { IsSome result ↔ IsPlannable list.now }
         ensures list { IfSome result (λ demands. demands ≡ list.now) }
     {
         if list.len() <= MOST_DEMANDS && has_windows(list) && is_sorted(list) {

@@ -2,9 +2,9 @@
 ghost use Rattle.std.specs.Prelude.{◌≡◌, ◌<◌, ◌≤◌};
 ghost use Rattle.schedule.specs.Placing.{place_at, spot};
 
-use super::demands::TICKS;
+use super::demands::HORIZON;
 use super::plan::Plan;
-use queue::{LoadedTick, TickQueue};
+use queue::{PlannedTick, TickQueue};
 
 // The hull of the window [from, to): the ticks from its start to the end of the window. They are queued, the least loaded
 // first; ticks before the start may be queued too.
@@ -24,7 +24,7 @@ impl<'a> Hull<'a> {
 
     // The hull of a window in a plan, with its queue in these slots.
     pub(super) fn new(
-        slots: &'a mut [LoadedTick; TICKS],
+        slots: &'a mut [PlannedTick; HORIZON],
         plan: &Plan,
         from: usize,
         to: usize,
@@ -37,9 +37,9 @@ impl<'a> Hull<'a> {
         let start = plan.hull_start(from);
         let mut ticks = TickQueue::new(slots);
         for tick in start..to {
-            let units = plan.loads[tick];
+            let units = plan.units[tick];
             let tick = tick as u16;
-            ticks.put(LoadedTick { units, tick }).unwrap();
+            ticks.put(PlannedTick { units, tick }).unwrap();
         }
         Hull {
             from,
@@ -50,7 +50,7 @@ impl<'a> Hull<'a> {
     }
 
     // One unit more of the window is placed, at the least loaded tick of the hull.
-    pub(super) fn place_unit(&mut self, plan: &mut Plan)
+    pub(super) fn allocate_unit(&mut self, plan: &mut Plan)
         requires hull { IsHull (state_of plan.old) self.old }
         requires room { HasRoom 1 (state_of plan.old) }
         ensures placed { state_of plan.new ≡ place_at self.old.from (spot self.old.from self.old.to (state_of plan.old)) (state_of plan.old) }
@@ -66,9 +66,9 @@ impl<'a> Hull<'a> {
             ticks.take();
         };
         let tick = usize::from(lowest.tick);
-        plan.place(self.from, tick);
+        plan.allocate(self.from, tick);
         let units = lowest.units + 1;
-        ticks.replace_least(LoadedTick { units, ..lowest });
+        ticks.replace_least(PlannedTick { units, ..lowest });
         if tick < self.from {
             self.start = plan.hull_start(self.from);
         }

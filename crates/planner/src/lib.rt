@@ -46,11 +46,11 @@ mod rounds;
 mod search;
 mod ticks;
 
-pub use blocks::{Block, Blocks, critical_blocks};
-pub use demands::{Demand, Demands, MOST_DEMANDS, NO_DEMAND, TICKS};
+pub use blocks::{RelativeBlock, RelativeBlocks, critical_blocks};
+pub use demands::{Demand, Demands, HORIZON, MOST_DEMANDS, NO_DEMAND};
 use hull::Hull;
 use plan::Plan;
-use queue::LoadedTick;
+use queue::PlannedTick;
 
 // The units of a demand are placed, one after the other.
 fn fill(plan: &mut Plan, demand: &Demand)
@@ -63,7 +63,7 @@ fn fill(plan: &mut Plan, demand: &Demand)
     if demand.units == 0 {
         return;
     }
-    let mut slots = [LoadedTick { units: 0, tick: 0 }; TICKS];
+    let mut slots = [PlannedTick { units: 0, tick: 0 }; HORIZON];
     let mut hull = Hull::new(
         &mut slots,
         plan,
@@ -71,12 +71,12 @@ fn fill(plan: &mut Plan, demand: &Demand)
         usize::from(demand.to),
     );
     for _ in 0..demand.units {
-        hull.place_unit(plan);
+        hull.allocate_unit(plan);
     }
 }
 
 /// The settings in force for these demands, one for each of 256 ticks.
-pub fn settings(demands: &Demands) -> [u32; TICKS]
+pub fn settings(demands: &Demands) -> [u32; HORIZON]
     ensures settings { Same horizon (listed result) (settings_in_force demands.now) }
     ensures in_force { InForce horizon demands.now (listed result) }
 {
@@ -84,5 +84,5 @@ pub fn settings(demands: &Demands) -> [u32; TICKS]
     for demand in demands.list {
         fill(&mut plan, demand);
     }
-    plan.loads
+    plan.units
 }

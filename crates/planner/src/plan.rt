@@ -2,14 +2,14 @@
 ghost use Rattle.std.specs.Prelude.{◌≡◌, ℕ, ◌+◌, ◌-◌, ◌^◌, ◌<◌, ◌≤◌, length, slice_index};
 ghost use Rattle.schedule.specs.Placing.{empty, low_end, place_at};
 
-use super::demands::TICKS;
+use super::demands::HORIZON;
 
 // The units that are placed in each tick so far, and the slack at each tick: by how much the units placed from there on exceed
 // those of the windows that start there or later.
 #[derive(Drop)]
 pub(super) struct Plan {
-    pub(super) loads: [u32; TICKS],
-    slack: [u32; TICKS],
+    pub(super) units: [u32; HORIZON],
+    slack: [u32; HORIZON],
 }
 
 // One slack more at each place.
@@ -17,8 +17,8 @@ fn raise(slack: &mut [u32])
     requires { (k : ℕ) → slice_index slack.old k + 1 < 2 ^ 32 }
     ensures { (k : ℕ) → k < length slack.old → slice_index slack.new k ≡ slice_index slack.old k + 1 }
 {
-    for place in slack {
-        *place += 1;
+    for value in slack {
+        *value += 1;
     }
 }
 
@@ -27,8 +27,8 @@ fn lower(slack: &mut [u32])
     requires { (k : ℕ) → k < length slack.old → 0 < slice_index slack.old k }
     ensures { (k : ℕ) → k < length slack.old → slice_index slack.new k ≡ slice_index slack.old k - 1 }
 {
-    for place in slack {
-        *place -= 1;
+    for value in slack {
+        *value -= 1;
     }
 }
 
@@ -40,8 +40,8 @@ impl Plan {
         ensures { state_of result ≡ empty }
     {
         Plan {
-            loads: [0; TICKS],
-            slack: [0; TICKS],
+            units: [0; HORIZON],
+            slack: [0; HORIZON],
         }
     }
 
@@ -57,14 +57,14 @@ impl Plan {
     }
 
     // A unit of a window that starts at `from` is placed at the tick.
-    pub(super) fn place(&mut self, from: usize, tick: usize)
+    pub(super) fn allocate(&mut self, from: usize, tick: usize)
         requires window { from < 256 }
         requires tick { tick < 256 }
         requires room { HasRoom 1 (state_of self.old) }
         requires slack { (k : ℕ) → tick < k → k ≤ from → 0 < (state_of self.old).slack k }
         ensures { state_of self.new ≡ place_at from tick (state_of self.old) }
     {
-        self.loads[tick] += 1;
+        self.units[tick] += 1;
         if from < tick {
             raise(&mut self.slack[from + 1..=tick]);
         } else {

@@ -7,12 +7,12 @@ ghost use Rattle.schedule.specs.BestPair.{extent};
 ghost use Rattle.schedule.specs.Rounds.{unplaced};
 ghost use Rattle.schedule.specs.Blocks.{first_tick, past_tick};
 ghost use Rattle.planner.specs.Pair.{times_of};
-ghost use Rattle.planner.specs.Ticks.{marked_in};
-ghost use Rattle.planner.specs.Plannable.{Plannable};
+ghost use Rattle.planner.specs.Ticks.{is_marked_in};
+ghost use Rattle.planner.specs.Plannable.{IsPlannable};
 ghost use Rattle.planner.specs.Blocks.{critical_blocks};
 
-use super::blocks::Block;
-use super::demands::{Demand, Demands, MOST_DEMANDS, NO_DEMAND, TICKS};
+use super::blocks::RelativeBlock;
+use super::demands::{Demand, Demands, HORIZON, MOST_DEMANDS, NO_DEMAND};
 use super::pair::Pair;
 use super::search::best_pair;
 use super::ticks::{compressed_times, first_tick, past_tick, take_ticks, taken_ticks};
@@ -20,7 +20,7 @@ use std::marker::Model;
 
 impl Demand {
     // The demand as seen in compressed time.
-    fn seen(&self, times: &[u16; TICKS + 1]) -> Demand
+    fn seen(&self, times: &[u16; HORIZON + 1]) -> Demand
         requires { (self.now.from ≤ 256) × (self.now.to ≤ 256) }
         ensures { result ≡ seen (listed times.now) self.now }
     {
@@ -33,27 +33,27 @@ impl Demand {
 }
 
 // The demands in compressed time, in the first places.
-fn windows(demands: &[Demand], times: &[u16; TICKS + 1]) -> [Demand; MOST_DEMANDS]
+fn windows(demands: &[Demand], times: &[u16; HORIZON + 1]) -> [Demand; MOST_DEMANDS]
     requires few { length demands.now ≤ 64 }
     requires within { AllByRecursion (λ d. (d.from < d.to) × (d.to ≤ 256)) demands.now }
     ensures { take (length demands.now) result ≡ map (seen (listed times.now)) demands.now }
 {
     let mut windows = [NO_DEMAND; MOST_DEMANDS];
-    for (place, demand) in demands.iter().enumerate() {
-        windows[place] = demand.seen(times);
+    for (index, demand) in demands.iter().enumerate() {
+        windows[index] = demand.seen(times);
     }
     windows
 }
 
 // Places the demands that lie inside the pair: the others go to the first places, and their number is answered.
-fn place_inside(demands: &mut [Demand], times: &[u16; TICKS + 1], pair: &Pair) -> usize
+fn remove_inside(demands: &mut [Demand], times: &[u16; HORIZON + 1], pair: &Pair) -> usize
     requires within { AllByRecursion (λ d. (d.from < d.to) × (d.to ≤ 256)) demands.old }
     ensures left { take result demands.new ≡ unplaced (listed times.now) (times_of pair.now) demands.old }
     ensures count { result ≤ length demands.new }
 {
     let mut count = 0;
-    for place in 0..demands.len() {
-        let demand = demands[place];
+    for index in 0..demands.len() {
+        let demand = demands[index];
         if !demand.seen(times).is_inside(pair.low, pair.high) {
             demands[count] = demand;
             count += 1;
@@ -63,12 +63,12 @@ fn place_inside(demands: &mut [Demand], times: &[u16; TICKS + 1], pair: &Pair) -
 }
 
 // The block of a round, by its pair and the ticks that it takes.
-fn block_of(pair: &Pair, taken: &[bool; TICKS]) -> Block
+fn block_of(pair: &Pair, taken: &[bool; HORIZON]) -> RelativeBlock
     ensures speed { result.speed ≡ (pair.now.work, extent (times_of pair.now)) }
-    ensures from { result.from ≡ first_tick (marked_in taken.now) (length taken.now) }
-    ensures to { result.to ≡ past_tick (marked_in taken.now) (length taken.now) }
+    ensures from { result.from ≡ first_tick (is_marked_in taken.now) (length taken.now) }
+    ensures to { result.to ≡ past_tick (is_marked_in taken.now) (length taken.now) }
 {
-    Block {
+    RelativeBlock {
         speed: (pair.work, pair.extent()),
         from: first_tick(taken),
         to: past_tick(taken),
@@ -79,7 +79,7 @@ fn block_of(pair: &Pair, taken: &[bool; TICKS]) -> Block
 #[derive(Drop)]
 pub(super) struct Rounds {
     // Which ticks are free.
-    free: [bool; TICKS],
+    free: [bool; HORIZON],
     // The demands that are not yet placed.
     demands: [Demand; MOST_DEMANDS],
     // How many they are: they stand in the first places, and what the others hold means nothing.
@@ -88,22 +88,22 @@ pub(super) struct Rounds {
 
 impl Model for Rounds {
     ghost use Rattle.std.specs.Prelude.{◌≤◌, List, take};
-    ghost use Rattle.planner.specs.declared.blocks.Block.{Block};
-    ghost use Rattle.planner.specs.Ticks.{free_in};
+    ghost use Rattle.planner.specs.declared.blocks.RelativeBlock.{RelativeBlock};
+    ghost use Rattle.planner.specs.Ticks.{is_free_in};
     ghost use Rattle.planner.specs.Rounds.{blocks_to_come, AreLeft};
 
-    ghost Value = { List Block };
+    ghost Value = { List RelativeBlock };
 
-    ghost view = { λ r. blocks_to_come (free_in r.free) (take r.count r.demands) };
+    ghost view = { λ r. blocks_to_come (is_free_in r.free) (take r.count r.demands) };
 
-    ghost invariant = { λ r. (r.count ≤ 64) × AreLeft (free_in r.free) (take r.count r.demands) };
+    ghost invariant = { λ r. (r.count ≤ 64) × AreLeft (is_free_in r.free) (take r.count r.demands) };
 }
 
 impl Rounds {
     // The rounds of the demands that have work left.
     pub(super) fn new(demands: &Demands) -> Rounds
         ensures blocks { result ≡ critical_blocks demands.now }
-        ensures plannable { Plannable demands.now }
+        ensures plannable { IsPlannable demands.now }
     {
         let mut open = [NO_DEMAND; MOST_DEMANDS];
         let mut count = 0;
@@ -114,14 +114,14 @@ impl Rounds {
             }
         }
         Rounds {
-            free: [true; TICKS],
+            free: [true; HORIZON],
             demands: open,
             count,
         }
     }
 
     // The block of the next round, or none where every demand is placed.
-    pub(super) fn next_block(&mut self) -> Option<Block>
+    pub(super) fn next_block(&mut self) -> Option<RelativeBlock>
         ensures { MatchOption result (self.old ≡ []) (λ block. self.old ≡ block ∷ self.new) }
     {
         let times = compressed_times(&self.free);
@@ -129,7 +129,7 @@ impl Rounds {
         let pair = best_pair(&windows[..self.count])?;
         let taken = taken_ticks(&self.free, &times, &pair);
         take_ticks(&mut self.free, &taken);
-        self.count = place_inside(&mut self.demands[..self.count], &times, &pair);
+        self.count = remove_inside(&mut self.demands[..self.count], &times, &pair);
         Some(block_of(&pair, &taken))
     }
 }

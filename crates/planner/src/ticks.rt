@@ -5,16 +5,16 @@ ghost use Rattle.schedule.specs.Compressed.{compressed};
 ghost use Rattle.schedule.specs.Rounds.{between};
 ghost use Rattle.schedule.specs.Blocks.{first_tick, past_tick};
 ghost use Rattle.planner.specs.Pair.{times_of};
-ghost use Rattle.planner.specs.Ticks.{free_in, marked_in};
+ghost use Rattle.planner.specs.Ticks.{is_free_in, is_marked_in};
 
-use super::demands::TICKS;
+use super::demands::HORIZON;
 use super::pair::Pair;
 
 // The compressed time of each tick, and of the one after the last: the number of free ticks before it.
-pub(super) fn compressed_times(free: &[bool; TICKS]) -> [u16; TICKS + 1]
-    ensures { (t : ℕ) → t ≤ 256 → listed result t ≡ compressed (free_in free.now) t }
+pub(super) fn compressed_times(free: &[bool; HORIZON]) -> [u16; HORIZON + 1]
+    ensures { (t : ℕ) → t ≤ 256 → listed result t ≡ compressed (is_free_in free.now) t }
 {
-    let mut times = [0; TICKS + 1];
+    let mut times = [0; HORIZON + 1];
     for (tick, free) in free.iter().enumerate() {
         times[tick + 1] = times[tick] + u16::from(*free);
     }
@@ -23,13 +23,13 @@ pub(super) fn compressed_times(free: &[bool; TICKS]) -> [u16; TICKS + 1]
 
 // The ticks that a round takes: the free ones whose compressed time lies in its pair.
 pub(super) fn taken_ticks(
-    free: &[bool; TICKS],
-    times: &[u16; TICKS + 1],
+    free: &[bool; HORIZON],
+    times: &[u16; HORIZON + 1],
     pair: &Pair,
-) -> [bool; TICKS]
-    ensures { (t : ℕ) → t < 256 → marked_in result t ≡ (free_in free.now t && between (times_of pair.now) (listed times.now t)) }
+) -> [bool; HORIZON]
+    ensures { (t : ℕ) → t < 256 → is_marked_in result t ≡ (is_free_in free.now t && between (times_of pair.now) (listed times.now t)) }
 {
-    let mut taken = [false; TICKS];
+    let mut taken = [false; HORIZON];
     for (tick, free) in free.iter().enumerate() {
         taken[tick] = *free && pair.has(times[tick]);
     }
@@ -37,8 +37,8 @@ pub(super) fn taken_ticks(
 }
 
 // Takes ticks from the free ones.
-pub(super) fn take_ticks(free: &mut [bool; TICKS], taken: &[bool; TICKS])
-    ensures { (t : ℕ) → t < 256 → free_in free.new t ≡ (free_in free.old t && not (marked_in taken.now t)) }
+pub(super) fn take_ticks(free: &mut [bool; HORIZON], taken: &[bool; HORIZON])
+    ensures { (t : ℕ) → t < 256 → is_free_in free.new t ≡ (is_free_in free.old t && not (is_marked_in taken.now t)) }
 {
     for (tick, taken) in taken.iter().enumerate() {
         if *taken {
@@ -48,16 +48,16 @@ pub(super) fn take_ticks(free: &mut [bool; TICKS], taken: &[bool; TICKS])
 }
 
 // The first of the ticks.
-pub(super) fn first_tick(ticks: &[bool; TICKS]) -> u16
-    ensures { result ≡ first_tick (marked_in ticks.now) (length ticks.now) }
+pub(super) fn first_tick(ticks: &[bool; HORIZON]) -> u16
+    ensures { result ≡ first_tick (is_marked_in ticks.now) (length ticks.now) }
 {
     let first = ticks.iter().position(|tick| *tick);
-    first.unwrap_or(TICKS) as u16
+    first.unwrap_or(HORIZON) as u16
 }
 
 // The tick after the last of them.
-pub(super) fn past_tick(ticks: &[bool; TICKS]) -> u16
-    ensures { result ≡ past_tick (marked_in ticks.now) (length ticks.now) }
+pub(super) fn past_tick(ticks: &[bool; HORIZON]) -> u16
+    ensures { result ≡ past_tick (is_marked_in ticks.now) (length ticks.now) }
 {
     let last = ticks.iter().rposition(|tick| *tick);
     last.map_or(0, |tick| tick + 1) as u16

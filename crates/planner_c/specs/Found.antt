@@ -1,6 +1,6 @@
 -- Critical blocks as C sees them.
 use Rattle.std.specs.Prelude.{List, map, take}
-use Rattle.planner.specs.declared.blocks.Block.{Block as Told}
+use Rattle.planner.specs.declared.blocks.RelativeBlock.{RelativeBlock as Told}
 use Rattle.planner_c.specs.declared.Block.{Block}
 use Rattle.planner_c.specs.declared.Blocks.{Blocks}
 

@@ -5,12 +5,12 @@ ghost use Rattle.std.specs.Prelude.{◌≡◌, ◌↔◌, ◌<◌, ◌≤◌, le
 ghost use Rattle.schedule.specs.Certificate.{listed};
 ghost use Rattle.schedule.specs.InForce.{horizon, InForce, Same, settings_in_force};
 ghost use Rattle.schedule.specs.Theory.{Blocked};
-ghost use Rattle.planner.specs.Plannable.{Plannable};
+ghost use Rattle.planner.specs.Plannable.{IsPlannable};
 ghost use Rattle.planner.specs.Blocks.{open_demands, critical_blocks};
 ghost use Rattle.planner_c.specs.Jobs.{demands};
 ghost use Rattle.planner_c.specs.Found.{found_blocks};
 
-use planner::{Demand, Demands, MOST_DEMANDS, NO_DEMAND, TICKS, critical_blocks, settings};
+use planner::{Demand, Demands, HORIZON, MOST_DEMANDS, NO_DEMAND, critical_blocks, settings};
 
 /// An open job seen from now: its window [from, to) in ticks from now, and its work left.
 // Of the same fields as `Demand`, which has a `Model`: no such type crosses to C.
@@ -25,7 +25,7 @@ pub struct Job {
 /// A setting for each tick from now on.
 #[repr(C)]
 pub struct Settings {
-    pub ticks: [u32; TICKS],
+    pub ticks: [u32; HORIZON],
 }
 
 /// A critical block: its work, its length in ticks, its first tick, and the tick after its last. They count from now.
@@ -58,7 +58,7 @@ fn copy(jobs: &[Job], places: &mut [Demand])
 // The demands of these jobs, written to the first places, or the number that tells why there are none.
 fn demands_of<'a>(jobs: &[Job], places: &'a mut [Demand; MOST_DEMANDS]) -> Result<Demands<'a>, u32>
     ensures many { result ≡ Err 1 ↔ 64 < length jobs.now }
-    ensures planned { IsOk result ↔ Plannable (demands jobs.now) }
+    ensures planned { IsOk result ↔ IsPlannable (demands jobs.now) }
     ensures otherwise { IfErr result (λ why. (0 < why) × (why ≤ 2)) }
     ensures demands { IfOk result (λ found. found ≡ demands jobs.now) }
 {
@@ -77,7 +77,7 @@ fn demands_of<'a>(jobs: &[Job], places: &'a mut [Demand; MOST_DEMANDS]) -> Resul
 #[unsafe(no_mangle)]
 pub extern "C" fn planner_settings(jobs: &[Job], found: &mut Settings) -> u32
     ensures many { result ≡ 1 ↔ 64 < length jobs.now }
-    ensures planned { result ≡ 0 ↔ Plannable (demands jobs.now) }
+    ensures planned { result ≡ 0 ↔ IsPlannable (demands jobs.now) }
     ensures otherwise { result ≤ 2 }
     ensures settings { result ≡ 0 → Same horizon (listed found.new.ticks) (settings_in_force (demands jobs.now)) }
     ensures in_force { result ≡ 0 → InForce horizon (demands jobs.now) (listed found.new.ticks) }
@@ -94,7 +94,7 @@ pub extern "C" fn planner_settings(jobs: &[Job], found: &mut Settings) -> u32
 
 impl Blocks {
     // Writes these blocks to the first places.
-    fn write(&mut self, blocks: &[planner::Block])
+    fn write(&mut self, blocks: &[planner::RelativeBlock])
         requires { length blocks.now ≤ 64 }
         ensures count { self.new.count ≡ length blocks.now }
         ensures blocks { found_blocks self.new ≡ blocks.now }
@@ -120,7 +120,7 @@ impl Blocks {
 #[unsafe(no_mangle)]
 pub extern "C" fn planner_blocks(jobs: &[Job], found: &mut Blocks) -> u32
     ensures many { result ≡ 1 ↔ 64 < length jobs.now }
-    ensures planned { result ≡ 0 ↔ Plannable (demands jobs.now) }
+    ensures planned { result ≡ 0 ↔ IsPlannable (demands jobs.now) }
     ensures otherwise { result ≤ 2 }
     ensures count { result ≡ 0 → found.new.count ≡ length (critical_blocks (demands jobs.now)) }
     ensures blocks { result ≡ 0 → found_blocks found.new ≡ critical_blocks (demands jobs.now) }

@@ -1,21 +1,21 @@
 // Critical blocks of demands.
 use super::samples::demand;
-use planner::{Block, Demand, Demands, critical_blocks};
+use planner::{Demand, Demands, RelativeBlock, critical_blocks};
 use std::process::Abort;
 
-fn check_blocks(rt: &impl Abort, list: &[Demand], blocks: &[Block]) {
+fn check_blocks(rt: &impl Abort, list: &[Demand], blocks: &[RelativeBlock]) {
     let demands = Demands::new(list).expect(rt, "no settings for the list");
     assert_eq!(rt; critical_blocks(&demands).list(), blocks);
 }
 
 #[test]
 fn demands_with_no_work_left_play_no_part(rt: HostRuntime) {
-    let dense = Block {
+    let dense = RelativeBlock {
         speed: (6, 2),
         from: 4,
         to: 6,
     };
-    let around = Block {
+    let around = RelativeBlock {
         speed: (4, 8),
         from: 0,
         to: 10,

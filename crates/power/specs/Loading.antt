@@ -11,26 +11,26 @@ abbrev pub list_draw : List ℕ → ℕ → ℕ
 list_draw list = draw_at (take 256 list)
 
 -- what the least setting at which a law breaks, if there is one, makes of a long enough list
-abbrev pub broken_at : Option ℕ → Result (Unit {0}) PowerFault
-broken_at None = Ok tt
-broken_at (Some s) = Err (Broken s)
+abbrev pub break_answer : Option ℕ → Result (Unit {0}) PowerFault
+break_answer None = Ok tt
+break_answer (Some s) = Err (Broken s)
 
 -- the answer: the length comes before the laws
 abbrev pub load_answer : List ℕ → Result (Unit {0}) PowerFault
-load_answer list = if nat_lt (length list) 256 then Err (Short 256) else broken_at (first_break (list_draw list))
+load_answer list = if nat_lt (length list) 256 then Err (Short 256) else break_answer (first_break (list_draw list))
 
 -- the numbers after a load: the first 256 of the list, or the old ones where it is refused
-abbrev pub loaded : (old list : List ℕ) → List ℕ
-loaded old list = if is_ok (load_answer list) then take 256 list else old
+abbrev pub numbers_after : (old list : List ℕ) → List ℕ
+numbers_after old list = if is_ok (load_answer list) then take 256 list else old
 
 -- a list that can be loaded has 256 numbers, and the first 256 keep both laws
-abbrev pub Loadable : List ℕ → Type 0
-Loadable list = (256 ≤ length list) × Lawful 255 (list_draw list)
+abbrev pub IsLoadable : List ℕ → Type 0
+IsLoadable list = (256 ≤ length list) × Lawful 255 (list_draw list)
 
 -- a list is accepted just where it can be loaded
 abbrev pub Accepts : List ℕ → Result (Unit {0}) PowerFault → Type 0
-Accepts list (Ok u) = Loadable list
-Accepts list (Err e) = Loadable list → ⊥
+Accepts list (Ok u) = IsLoadable list
+Accepts list (Err e) = IsLoadable list → ⊥
 
 -- the setting named is the least at which a law breaks: both are kept up to the one before it, and not up to it
 abbrev pub NamesLeast : (ℕ → ℕ) → Result (Unit {0}) PowerFault → Type 0

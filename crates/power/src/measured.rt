@@ -3,7 +3,7 @@ ghost use Rattle.std.specs.Prelude.{◌≡◌, ℕ, ◌≤◌, replicate};
 ghost use Rattle.power.specs.Laws.{Lawful};
 ghost use Rattle.power.specs.Draws.{draw_at};
 ghost use Rattle.power.specs.Breaks.{breaks_at, first_break};
-ghost use Rattle.power.specs.Loading.{list_draw, load_answer, loaded, Accepts, NamesLeast};
+ghost use Rattle.power.specs.Loading.{list_draw, load_answer, numbers_after, Accepts, NamesLeast};
 
 use super::fault::PowerFault;
 use super::model::{PowerModel, SETTINGS};
@@ -55,7 +55,7 @@ impl Measured {
         ensures answer { result ≡ load_answer list.now }
         ensures accepts { Accepts list.now result }
         ensures least { NamesLeast (list_draw list.now) result }
-        ensures numbers { self.new.numbers ≡ loaded self.old.numbers list.now }
+        ensures numbers { self.new.numbers ≡ numbers_after self.old.numbers list.now }
     {
         let draws = list
             .first_chunk()

@@ -7,7 +7,7 @@ use Rattle.std.proofs.ByRecursion.{All-get_or}
 use Rattle.std.proofs.lemmas.Bool.{cases_lt}
 use Rattle.std.proofs.lemmas.Bool.Decides.{nat_tests}
 use Rattle.queue.specs.Order.{JustOne}
-use Rattle.queue.specs.Says.{NoTies, least}
+use Rattle.queue.specs.Says.{NoTies, least_of}
 
 module _ {X : Type 0} {before : X → X → Bool} (same : X → X → Bool) (one : (x y : X) → JustOne (before x y) (same x y) (before y x)) (o : IsStrictWeakOrder before) where
   -- two elements that none is before stand at one place
@@ -23,7 +23,7 @@ module _ {X : Type 0} {before : X → X → Bool} (same : X → X → Bool) (one
     ]
   ]
 
-  pub is_least : (xs : List X) (x : X) → ContainsAt xs x → AllByRecursion (λ y. before y x ≡ false) xs → NoTies same xs → Some x ≡ least before xs
+  pub is_least : (xs : List X) (x : X) → ContainsAt xs x → AllByRecursion (λ y. before y x ≡ false) xs → NoTies same xs → Some x ≡ least_of before xs
   is_least [] x has none apart = absurd (omega (arith, has.1))
   is_least (a ∷ rest) x has none apart =
       let xs = a ∷ rest in

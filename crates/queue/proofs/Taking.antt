@@ -7,7 +7,7 @@ use Rattle.std.proofs.ByRecursion.{All-from_get_or}
 use Rattle.std.proofs.lemmas.List.{take_at, take_more, length-take-le, get_or-take, get_or_default}
 use Rattle.std.proofs.lemmas.List.Sorted.{IsPermutation-cons, IsPermutation-to_front, IsPermutation-trans, IsPermutation-refl, length_permutation}
 use Rattle.queue.specs.Order.{JustOne}
-use Rattle.queue.specs.Slots.{Slots, held}
+use Rattle.queue.specs.Slots.{Slots, elements_of}
 use Rattle.queue.specs.Tree.{HeapOrder}
 use Rattle.queue.specs.Says.{TakeSays, LeastSays, ReplaceSays}
 use Rattle.queue.proofs.Steps.{least_at_root}
@@ -20,78 +20,78 @@ starts (x ∷ s) d some = refl
 
 -- of the m + 1 elements that q holds as a heap the first one leaves
 module _ {X : Type 0} {before : X → X → Bool} (same : X → X → Bool) (one : (x y : X) → JustOne (before x y) (same x y) (before y x)) (o : IsStrictWeakOrder before)
-    (q r : Slots X) (m : ℕ) (d : X) (fits : q.count ≤ length q.places) (ordered : HeapOrder before (held q)) (count : q.count ≡ m + 1) where
-  taken : r.count ≡ m → length r.places ≡ length q.places → IsPermutation (held q) (get_or q.places 0 d ∷ held r) → TakeSays before same q r (Some (get_or q.places 0 d))
+    (q r : Slots X) (m : ℕ) (d : X) (fits : q.count ≤ length q.slots) (ordered : HeapOrder before (elements_of q)) (count : q.count ≡ m + 1) where
+  taken : r.count ≡ m → length r.slots ≡ length q.slots → IsPermutation (elements_of q) (get_or q.slots 0 d ∷ elements_of r) → TakeSays before same q r (Some (get_or q.slots 0 d))
   taken left slots holds =
-      let x = get_or q.places 0 d in
-      let len : length (held q) ≡ q.count = length-take-le q.count q.places fits in
-      let some : 0 < length (held q) = omega (arith, len, count) in
-      let at_0 : (e : X) → get_or (held q) 0 e ≡ x = λ e. get_or_default (held q) 0 e d some ∙ get_or-take q.count q.places 0 d (omega (arith, count)) in
-      let least : AllByRecursion (λ y. before y x ≡ false) (held q) =
-      All-from_get_or (λ y. before y x ≡ false) (held q) d (λ k kl. rw (at_0 d) at (least_at_root before o (λ j. get_or (held q) j d) (length (held q)) (from_heap before (held q) ordered d) k kl)) in
+      let x = get_or q.slots 0 d in
+      let len : length (elements_of q) ≡ q.count = length-take-le q.count q.slots fits in
+      let some : 0 < length (elements_of q) = omega (arith, len, count) in
+      let at_0 : (e : X) → get_or (elements_of q) 0 e ≡ x = λ e. get_or_default (elements_of q) 0 e d some ∙ get_or-take q.count q.slots 0 d (omega (arith, count)) in
+      let least : AllByRecursion (λ y. before y x ≡ false) (elements_of q) =
+      All-from_get_or (λ y. before y x ≡ false) (elements_of q) d (λ k kl. rw (at_0 d) at (least_at_root before o (λ j. get_or (elements_of q) j d) (length (elements_of q)) (from_heap before (elements_of q) ordered d) k kl)) in
       record {
         leaves = record { slots = slots; count = omega (arith, count, left); holds = holds; least = least };
-        pinned = is_least same one o (held q) x (0, some, at_0) least;
+        pinned = is_least same one o (elements_of q) x (0, some, at_0) least;
       }
 
   -- the last one takes its place, and the m that are left come in the order of h
-  pub first_taken : (e : X) (h : List X) → 0 < m → IsPermutation (get_or q.places m e ∷ drop 1 (take m q.places)) h → r ≡ record { places = h ++ drop m q.places; count = m } → TakeSays before same q r (Some (get_or q.places 0 d))
+  pub first_taken : (e : X) (h : List X) → 0 < m → IsPermutation (get_or q.slots m e ∷ drop 1 (take m q.slots)) h → r ≡ record { slots = h ++ drop m q.slots; count = m } → TakeSays before same q r (Some (get_or q.slots 0 d))
   first_taken e h some p is =
-      let s = q.places in
+      let s = q.slots in
       let x = get_or s 0 d in
       let y = get_or s m e in
       let t = take m s in
       let lt : length t ≡ m = length-take-le m s (omega (arith, count, fits)) in
       let et : t ≡ x ∷ drop 1 t = starts t d (omega (arith, lt, some)) ∙ ap (λ z. z ∷ drop 1 t) (get_or-take m s 0 d some) in
       let lh : length h ≡ m = length_permutation _ _ p ∙ (sym (ap length et) ∙ lt) in
-      let all : held q ≡ x ∷ (drop 1 t ++ y ∷ []) = ap (λ n. take n s) count ∙ (take_more s m e (omega (arith, count, fits)) ∙ ap (λ u. u ++ y ∷ []) et) in
-      let left : held r ≡ h = ap held is ∙ take_at h (drop m s) m lh in
-      taken (ap (λ v. v.count) is) (ap (λ v. length v.places) is ∙ omega (arith, length-append h (drop m s), length-drop m s, lh, count, fits))
+      let all : elements_of q ≡ x ∷ (drop 1 t ++ y ∷ []) = ap (λ n. take n s) count ∙ (take_more s m e (omega (arith, count, fits)) ∙ ap (λ u. u ++ y ∷ []) et) in
+      let left : elements_of r ≡ h = ap elements_of is ∙ take_at h (drop m s) m lh in
+      taken (ap (λ v. v.count) is) (ap (λ v. length v.slots) is ∙ omega (arith, length-append h (drop m s), length-drop m s, lh, count, fits))
       (rw (all, left) (IsPermutation-cons x _ _ (IsPermutation-trans _ _ _ (IsPermutation-to_front (drop 1 t) y) p)))
 
   -- it was the only one
-  pub only_taken : m ≤ 0 → r ≡ record { places = q.places; count = m } → TakeSays before same q r (Some (get_or q.places 0 d))
+  pub only_taken : m ≤ 0 → r ≡ record { slots = q.slots; count = m } → TakeSays before same q r (Some (get_or q.slots 0 d))
   only_taken none is =
-      let s = q.places in
+      let s = q.slots in
       let m0 : m ≡ 0 = omega arith in
-      let all : held q ≡ get_or s 0 d ∷ [] = ap (λ n. take n s) count ∙ (ap (λ n. take (n + 1) s) m0 ∙ ap (take 1) (starts s d (omega (arith, count, fits)))) in
-      let left : held r ≡ [] = ap held is ∙ ap (λ n. take n s) m0 in
-      taken (ap (λ v. v.count) is) (ap (λ v. length v.places) is) (rw (all, left) (IsPermutation-refl _))
+      let all : elements_of q ≡ get_or s 0 d ∷ [] = ap (λ n. take n s) count ∙ (ap (λ n. take (n + 1) s) m0 ∙ ap (take 1) (starts s d (omega (arith, count, fits)))) in
+      let left : elements_of r ≡ [] = ap elements_of is ∙ ap (λ n. take n s) m0 in
+      taken (ap (λ v. v.count) is) (ap (λ v. length v.slots) is) (rw (all, left) (IsPermutation-refl _))
 
 -- what stays without the first of the elements that q holds as a heap, and what is held with x besides that
 module _ {X : Type 0} {before : X → X → Bool} (same : X → X → Bool) (one : (x y : X) → JustOne (before x y) (same x y) (before y x)) (o : IsStrictWeakOrder before)
-    (q : Slots X) (d : X) (fits : q.count ≤ length q.places) (ordered : HeapOrder before (held q)) (some : 0 < q.count) where
+    (q : Slots X) (d : X) (fits : q.count ≤ length q.slots) (ordered : HeapOrder before (elements_of q)) (some : 0 < q.count) where
   abbrev rest : Slots X
-  rest = record { places = drop 1 (held q) ++ drop (q.count - 1) q.places; count = q.count - 1 }
+  rest = record { slots = drop 1 (elements_of q) ++ drop (q.count - 1) q.slots; count = q.count - 1 }
 
-  length-others : length (drop 1 (held q)) ≡ q.count - 1
-  length-others = omega (arith, length-drop 1 (held q), length-take-le q.count q.places fits)
+  length-others : length (drop 1 (elements_of q)) ≡ q.count - 1
+  length-others = omega (arith, length-drop 1 (elements_of q), length-take-le q.count q.slots fits)
 
-  held-rest : held rest ≡ drop 1 (held q)
-  held-rest = take_at (drop 1 (held q)) (drop (q.count - 1) q.places) (q.count - 1) length-others
+  elements_of-rest : elements_of rest ≡ drop 1 (elements_of q)
+  elements_of-rest = take_at (drop 1 (elements_of q)) (drop (q.count - 1) q.slots) (q.count - 1) length-others
 
-  length-rest : length rest.places ≡ length q.places
-  length-rest = omega (arith, length-append (drop 1 (held q)) (drop (q.count - 1) q.places), length-drop (q.count - 1) q.places, length-others, some, fits)
+  length-rest : length rest.slots ≡ length q.slots
+  length-rest = omega (arith, length-append (drop 1 (elements_of q)) (drop (q.count - 1) q.slots), length-drop (q.count - 1) q.slots, length-others, some, fits)
 
-  first_out : TakeSays before same q rest (Some (get_or q.places 0 d))
+  first_out : TakeSays before same q rest (Some (get_or q.slots 0 d))
   first_out =
-      let e : held q ≡ get_or q.places 0 d ∷ held rest = starts (held q) d (omega (arith, length-take-le q.count q.places fits, some))
-      ∙ (ap (λ z. z ∷ drop 1 (held q)) (get_or-take q.count q.places 0 d some) ∙ ap (λ l. get_or q.places 0 d ∷ l) (sym held-rest)) in
-      taken same one o q rest (q.count - 1) d fits ordered (omega (arith, some)) refl length-rest (subst (λ l. IsPermutation l (get_or q.places 0 d ∷ held rest)) (sym e) (IsPermutation-refl _))
+      let e : elements_of q ≡ get_or q.slots 0 d ∷ elements_of rest = starts (elements_of q) d (omega (arith, length-take-le q.count q.slots fits, some))
+      ∙ (ap (λ z. z ∷ drop 1 (elements_of q)) (get_or-take q.count q.slots 0 d some) ∙ ap (λ l. get_or q.slots 0 d ∷ l) (sym elements_of-rest)) in
+      taken same one o q rest (q.count - 1) d fits ordered (omega (arith, some)) refl length-rest (subst (λ l. IsPermutation l (get_or q.slots 0 d ∷ elements_of rest)) (sym e) (IsPermutation-refl _))
 
-  pub least_said : LeastSays before same q (Some (get_or q.places 0 d))
+  pub least_said : LeastSays before same q (Some (get_or q.slots 0 d))
   least_said = (rest, first_out)
 
   -- x takes the place of the first one, and all come in the order of h
-  pub first_replaced : (x : X) (h : List X) → IsPermutation (x ∷ drop 1 (held q)) h → ReplaceSays before same x q record { places = h ++ drop q.count q.places; count = q.count } (Some (get_or q.places 0 d))
+  pub first_replaced : (x : X) (h : List X) → IsPermutation (x ∷ drop 1 (elements_of q)) h → ReplaceSays before same x q record { slots = h ++ drop q.count q.slots; count = q.count } (Some (get_or q.slots 0 d))
   first_replaced x h p =
       let lh : length h ≡ q.count = omega (arith, length_permutation _ _ p, length-others, some) in
       record {
         left = rest;
         taken = first_out;
         refilled = record {
-          slots = omega (arith, length-append h (drop q.count q.places), length-drop q.count q.places, lh, fits, length-rest);
+          slots = omega (arith, length-append h (drop q.count q.slots), length-drop q.count q.slots, lh, fits, length-rest);
           count = omega (arith, some);
-          holds = rw (held-rest, take_at h (drop q.count q.places) q.count lh) p;
+          holds = rw (elements_of-rest, take_at h (drop q.count q.slots) q.count lh) p;
         };
       }

@@ -19,12 +19,12 @@ pub struct Queue<'a, T: Rank> {
 }
 
 // The child of this place that no child of it is before.
-fn lesser_child<T: Rank>(heap: &[T], place: usize) -> usize
-    requires { 2 * place + 1 < length heap.now }
-    ensures child { (Child place result) × (result < length heap.now) }
-    ensures least { (k : ℕ) (d : T) → Child place k → k < length heap.now → T.before (slice_index_or heap.now k d) (slice_index_or heap.now result d) ≡ false }
+fn lesser_child<T: Rank>(heap: &[T], index: usize) -> usize
+    requires { 2 * index + 1 < length heap.now }
+    ensures child { (Child index result) × (result < length heap.now) }
+    ensures least { (k : ℕ) (d : T) → Child index k → k < length heap.now → T.before (slice_index_or heap.now k d) (slice_index_or heap.now result d) ≡ false }
 {
-    let left = 2 * place + 1;
+    let left = 2 * index + 1;
     let right = left + 1;
     if right < heap.len() && heap[right].is_before(&heap[left]) {
         right
@@ -40,18 +40,18 @@ fn sift_up<T: Rank>(heap: &mut [T], moving: T)
     ensures holds { IsPermutation (moving ∷ take (length heap.old - 1) heap.old) heap.new }
     ensures ordered { HeapOrder T.before heap.new }
 {
-    let mut place = heap.len() - 1;
+    let mut index = heap.len() - 1;
     // The place goes up the tree, by no iterator of a slice.
-    while place > 0 {
-        let parent = (place - 1) / 2;
+    while index > 0 {
+        let parent = (index - 1) / 2;
         let above = heap[parent];
         if !moving.is_before(&above) {
             break;
         }
-        heap[place] = above;
-        place = parent;
+        heap[index] = above;
+        index = parent;
     }
-    heap[place] = moving;
+    heap[index] = moving;
 }
 
 // Puts `moving` at the first place, or further down: each lesser child that is before it moves up one level first.
@@ -61,27 +61,27 @@ fn sift_down<T: Rank>(heap: &mut [T], moving: T)
     ensures holds { IsPermutation (moving ∷ drop 1 heap.old) heap.new }
     ensures ordered { HeapOrder T.before heap.new }
 {
-    let mut place = 0;
+    let mut index = 0;
     // The place goes down the tree, by no iterator of a slice.
-    while place < heap.len() / 2 {
-        let child = lesser_child(heap, place);
+    while index < heap.len() / 2 {
+        let child = lesser_child(heap, index);
         let below = heap[child];
         if !below.is_before(&moving) {
             break;
         }
-        heap[place] = below;
-        place = child;
+        heap[index] = below;
+        index = child;
     }
-    heap[place] = moving;
+    heap[index] = moving;
 }
 
 impl<'a, T: Rank> Queue<'a, T> {
     ghost use Rattle.queue.specs.Slots.{slots_of};
-    ghost use Rattle.queue.specs.Says.{PutLeaves, given_back, TakeSays, LeastSays, ReplaceSays};
+    ghost use Rattle.queue.specs.Says.{PutLeaves, try_put_answer, TakeSays, LeastSays, ReplaceSays};
 
     /// An empty queue in these slots.
     pub fn new(slots: &'a mut [T]) -> Queue<'a, T>
-        ensures empty { slots_of result ≡ record { places = slots.old; count = 0 } }
+        ensures empty { slots_of result ≡ record { slots = slots.old; count = 0 } }
         ensures lender { result.slots.ghost_name ≡ slots.entry.ghost_name }
     {
         Queue { slots, len: 0 }
@@ -89,7 +89,7 @@ impl<'a, T: Rank> Queue<'a, T> {
 
     /// Adds an element, or gives it back where every slot is taken.
     pub fn try_put(&mut self, element: T) -> Result<(), T>
-        ensures answer { result ≡ given_back element (slots_of self.old) }
+        ensures answer { result ≡ try_put_answer element (slots_of self.old) }
         ensures after { PutLeaves element (slots_of self.old) (slots_of self.new) }
         ensures lender { self.new.slots.ghost_name ≡ self.old.slots.ghost_name }
     {

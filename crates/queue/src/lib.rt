@@ -9,12 +9,12 @@
 //! `try_put` gives an element back that finds no free slot. `put` of these two refuses it by number.
 //!
 //! ```text
-//! let mut slots = [LoadedTick { units: 0, tick: 0 }; 256];
+//! let mut slots = [PlannedTick { units: 0, tick: 0 }; 256];
 //! let mut ticks = TickQueue::new(&mut slots);
-//! ticks.put(LoadedTick { units: 2, tick: 0 })?;
-//! ticks.put(LoadedTick { units: 1, tick: 7 })?;
-//! ticks.put(LoadedTick { units: 1, tick: 3 })?;
-//! // Some(LoadedTick { units: 1, tick: 3 })
+//! ticks.put(PlannedTick { units: 2, tick: 0 })?;
+//! ticks.put(PlannedTick { units: 1, tick: 7 })?;
+//! ticks.put(PlannedTick { units: 1, tick: 3 })?;
+//! // Some(PlannedTick { units: 1, tick: 3 })
 //! let next = ticks.take();
 //! ```
 //!
@@ -33,4 +33,4 @@ pub use fault::QueueFault;
 pub use heap::Queue;
 pub use order::Rank;
 pub use ready::{ReadyJob, ReadyQueue};
-pub use ticks::{LoadedTick, TickQueue};
+pub use ticks::{PlannedTick, TickQueue};

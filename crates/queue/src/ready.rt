@@ -1,6 +1,6 @@
 // Ready jobs: the earliest deadline first, then the least ticket.
 ghost use Rattle.std.specs.Prelude.{◌≡◌};
-ghost use Rattle.queue.specs.Elements.{ready_before, ready_same};
+ghost use Rattle.queue.specs.Elements.{is_ready_before, is_ready_same};
 ghost use Rattle.std.proofs.Common.{rules};
 
 use super::fault::QueueFault;
@@ -13,14 +13,14 @@ pub struct ReadyJob {
     pub deadline: u64,
     pub ticket: u16,
     /// Where the job stands in its table; it plays no part in the order.
-    pub place: u8,
+    pub index: u8,
 }
 
 // Written for each element type, with laws that the check finds: a key with an `Ord` would hide what before and same rank are.
 impl Rank for ReadyJob {
-    ghost before = { ready_before };
+    ghost before = { is_ready_before };
 
-    ghost same = { ready_same };
+    ghost same = { is_ready_same };
 
     ghost one = { Prim.search rules };
 

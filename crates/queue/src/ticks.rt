@@ -1,6 +1,6 @@
 // Loaded ticks: the fewest units first, then the earliest tick.
 ghost use Rattle.std.specs.Prelude.{◌≡◌};
-ghost use Rattle.queue.specs.Elements.{tick_before, tick_same};
+ghost use Rattle.queue.specs.Elements.{is_tick_before, is_tick_same};
 ghost use Rattle.std.proofs.Common.{rules};
 
 use super::fault::QueueFault;
@@ -9,16 +9,16 @@ use super::order::Rank;
 
 /// A tick of the plan, with the units that are placed in it so far.
 #[derive(Clone, Copy, PartialEq, Eq, Debug)]
-pub struct LoadedTick {
+pub struct PlannedTick {
     pub units: u32,
     pub tick: u16,
 }
 
 // Written for each element type, with laws that the check finds: a key with an `Ord` would hide what before and same rank are.
-impl Rank for LoadedTick {
-    ghost before = { tick_before };
+impl Rank for PlannedTick {
+    ghost before = { is_tick_before };
 
-    ghost same = { tick_same };
+    ghost same = { is_tick_same };
 
     ghost one = { Prim.search rules };
 
@@ -26,13 +26,13 @@ impl Rank for LoadedTick {
 
     ghost tied = { Prim.search rules };
 
-    fn is_before(&self, other: &LoadedTick) -> bool {
+    fn is_before(&self, other: &PlannedTick) -> bool {
         (self.units, self.tick) < (other.units, other.tick)
     }
 }
 
 /// A queue of loaded ticks, in slots that the caller lends.
-pub type TickQueue<'a> = Queue<'a, LoadedTick>;
+pub type TickQueue<'a> = Queue<'a, PlannedTick>;
 
 // `put` is not of every `Queue`: of elements of no size there can be 2^64 − 1 slots, and no `usize` counts one more.
 impl TickQueue<'_> {
@@ -40,7 +40,7 @@ impl TickQueue<'_> {
     ghost use Rattle.queue.specs.Says.{PutLeaves, put_answer};
 
     /// Adds a tick, or refuses with 10 and the slots that would be needed where every slot is taken.
-    pub fn put(&mut self, tick: LoadedTick) -> Result<(), QueueFault>
+    pub fn put(&mut self, tick: PlannedTick) -> Result<(), QueueFault>
         ensures answer { result ≡ put_answer (slots_of self.old) }
         ensures after { PutLeaves tick (slots_of self.old) (slots_of self.new) }
         ensures lender { self.new.slots.ghost_name ≡ self.old.slots.ghost_name }

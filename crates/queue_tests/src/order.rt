@@ -1,5 +1,5 @@
 // Whatever goes in, in whatever order, comes out sorted.
-use queue::{LoadedTick, ReadyJob, ReadyQueue, TickQueue};
+use queue::{PlannedTick, ReadyJob, ReadyQueue, TickQueue};
 use std::alloc::Global;
 use std::process::Abort;
 use std::test::Fail;
@@ -12,7 +12,7 @@ fn next(number: u32) -> u32 {
 // `count` ticks with few different units go in, and come out as a sort of their pairs has them.
 fn check_sorted(rt: &impl Abort, alloc: Global, count: usize, seed: u32) -> Result<(), Fail> {
     assert!(rt; count <= 64);
-    let mut slots = [LoadedTick { units: 0, tick: 0 }; 64];
+    let mut slots = [PlannedTick { units: 0, tick: 0 }; 64];
     let mut queue = TickQueue::new(&mut slots);
     let mut pairs = Vec::new(alloc);
     let mut number = seed;
@@ -20,12 +20,12 @@ fn check_sorted(rt: &impl Abort, alloc: Global, count: usize, seed: u32) -> Resu
         number = next(number);
         let units = (number >> 16) % 8;
         let tick = ((number >> 20) & 0xff) as u16;
-        assert_eq!(rt; queue.put(LoadedTick { units, tick }), Ok(()));
+        assert_eq!(rt; queue.put(PlannedTick { units, tick }), Ok(()));
         pairs.push((units, tick))?;
     }
     pairs.sort()?;
     for (units, tick) in pairs {
-        assert_eq!(rt; queue.take(), Some(LoadedTick { units, tick }));
+        assert_eq!(rt; queue.take(), Some(PlannedTick { units, tick }));
     }
     assert_eq!(rt; queue.take(), None);
     Ok(())
@@ -56,7 +56,7 @@ fn check_mixed(rt: &impl Abort, alloc: Global, seed: u32) -> Result<(), Fail> {
     let mut slots = [ReadyJob {
         deadline: 0,
         ticket: 0,
-        place: 0,
+        index: 0,
     }; 32];
     let mut queue = ReadyQueue::new(&mut slots);
     let mut list = Vec::new(alloc);
@@ -67,7 +67,7 @@ fn check_mixed(rt: &impl Abort, alloc: Global, seed: u32) -> Result<(), Fail> {
             let job = ReadyJob {
                 deadline: u64::from(number >> 24) % 6,
                 ticket,
-                place: ((number >> 8) & 0xff) as u8,
+                index: ((number >> 8) & 0xff) as u8,
             };
             assert_eq!(rt; queue.put(job), Ok(()));
             list.push(job)?;
@@ -87,7 +87,7 @@ fn jobs_come_out_as_from_a_plain_list(rt: HostRuntime) -> Result<(), Fail> {
 }
 
 // Removes the tick with the fewest units, then the earliest, from a plain list.
-fn take_least(list: &mut Vec<LoadedTick>) -> Option<LoadedTick> {
+fn take_least(list: &mut Vec<PlannedTick>) -> Option<PlannedTick> {
     let least = list
         .iter()
         .copied()
@@ -98,14 +98,14 @@ fn take_least(list: &mut Vec<LoadedTick>) -> Option<LoadedTick> {
 
 // Puts, takes and replacements by chance, each answered as a plain list answers it. No tick comes twice.
 fn check_replaced(rt: &impl Abort, alloc: Global, seed: u32) -> Result<(), Fail> {
-    let mut slots = [LoadedTick { units: 0, tick: 0 }; 32];
+    let mut slots = [PlannedTick { units: 0, tick: 0 }; 32];
     let mut queue = TickQueue::new(&mut slots);
     let mut list = Vec::new(alloc);
     let mut number = seed;
     for tick in 0..400u16 {
         number = next(number);
         let units = (number >> 24) % 6;
-        let added = LoadedTick { units, tick };
+        let added = PlannedTick { units, tick };
         let kind = (number >> 16) % 8;
         if kind < 3 && list.len() < 32 {
             assert_eq!(rt; queue.put(added), Ok(()));

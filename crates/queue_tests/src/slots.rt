@@ -1,11 +1,11 @@
 // Full and empty queues, slots that are used again, and elements of one rank.
-use queue::{LoadedTick, QueueFault, ReadyJob, ReadyQueue, TickQueue};
+use queue::{PlannedTick, QueueFault, ReadyJob, ReadyQueue, TickQueue};
 use refusal::{Layer, Refusal, Values};
 use std::process::Abort;
 use std::test::Fail;
 
-fn tick(units: u32, tick: u16) -> LoadedTick {
-    LoadedTick { units, tick }
+fn tick(units: u32, tick: u16) -> PlannedTick {
+    PlannedTick { units, tick }
 }
 
 // A queue of `count` slots takes `count` ticks and refuses one more; then all come out, and none after them.
@@ -79,22 +79,22 @@ fn jobs_of_one_rank_both_come(rt: HostRuntime) {
     let mut slots = [ReadyJob {
         deadline: 0,
         ticket: 0,
-        place: 0,
+        index: 0,
     }; 3];
     let mut queue = ReadyQueue::new(&mut slots);
-    for (ticket, place) in [(9u16, 4u8), (8, 1), (8, 2)] {
+    for (ticket, index) in [(9u16, 4u8), (8, 1), (8, 2)] {
         assert!(rt;
             queue
                 .put(ReadyJob {
                     deadline: 5,
                     ticket,
-                    place,
+                    index,
                 })
                 .is_ok()
         );
     }
     let taken = [queue.take(), queue.take(), queue.take()];
-    let places = taken.map(|job| job.map(|job| job.place));
+    let places = taken.map(|job| job.map(|job| job.index));
     assert!(rt; places == [Some(1), Some(2), Some(4)] || places == [Some(2), Some(1), Some(4)]);
 }
 

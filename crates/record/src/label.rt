@@ -1,6 +1,6 @@
 // The label of an offer.
 ghost use Rattle.std.specs.Prelude.{◌≡◌};
-ghost use Rattle.layout.specs.Label.{trimmed, shown_label, is_label};
+ghost use Rattle.layout.specs.Label.{trimmed_label, shown_label, is_label};
 
 use layout::is_printable;
 
@@ -9,7 +9,7 @@ const LABEL_LEN: usize = 6;
 
 // The label without its last spaces.
 pub(super) fn trim(label: &[u8]) -> &[u8]
-    ensures { result.now ≡ trimmed label.now }
+    ensures { result.now ≡ trimmed_label label.now }
 {
     let spaces = label.iter().rev().take_while(|byte| **byte == b' ').count();
     &label[..label.len() - spaces]

@@ -29,7 +29,7 @@ pub struct Numbers {
 
 impl Numbers {
     ghost use Rattle.layout.specs.Layout.{ticket_of, arrival_of, deadline_of, work_of};
-    ghost use Rattle.layout.specs.Writing.{fields_out};
+    ghost use Rattle.layout.specs.Writing.{record_bytes};
 
     /// The numbers in the 24 bytes of a record, whatever its other bytes are.
     pub fn of(bytes: &[u8; RECORD_LEN]) -> Numbers
@@ -52,7 +52,7 @@ impl Numbers {
     ///
     /// Of arrival and deadline the low six bytes.
     pub fn lay_out(&self, first: u8, last: &[u8; LAST_LEN]) -> [u8; RECORD_LEN]
-        ensures { result ≡ fields_out first self.now.ticket self.now.arrival self.now.deadline self.now.work last.now }
+        ensures { result ≡ record_bytes first self.now.ticket self.now.arrival self.now.deadline self.now.work last.now }
     {
         let mut bytes = [0; RECORD_LEN];
         bytes[0] = first;

@@ -1,8 +1,8 @@
 // The reader: a struct over the input with a place.
 ghost use Rattle.std.specs.Prelude.{◌≡◌, ◌+◌, ◌^◌, ◌<◌, ◌≤◌, length};
 ghost use Rattle.layout.specs.Content.{content_of};
-ghost use Rattle.layout.specs.Reading.{content, parsed, parsed_by, one, read_at, read_by, after};
-ghost use Rattle.layout.specs.RoundTrip.{OnlyForm};
+ghost use Rattle.layout.specs.Reading.{content_in, parse_answer, parse_answer_of, some_content, read_answer, read_answer_of, position_after};
+ghost use Rattle.layout.specs.RoundTrip.{IsOnlyForm};
 ghost use Rattle.layout.specs.BigEndian.{part};
 
 use super::label::trim;
@@ -12,7 +12,7 @@ use std::marker::Model;
 
 // What the bytes of an allowed record say.
 fn content_of(kind: Kind, bytes: &[u8; RECORD_LEN]) -> Record<'_>
-    ensures { content_of result ≡ content kind bytes.now }
+    ensures { content_of result ≡ content_in kind bytes.now }
 {
     let numbers = Numbers::of(bytes);
     match kind {
@@ -31,14 +31,16 @@ fn content_of(kind: Kind, bytes: &[u8; RECORD_LEN]) -> Record<'_>
 }
 
 // The record of these bytes, which stand at the place in the input.
-fn parse(bytes: &[u8; RECORD_LEN], place: usize) -> Result<Record<'_>, ReadFault>
-    requires { place + 24 < 2 ^ 64 }
-    ensures said { parsed_by result ≡ parsed place bytes.now }
-    ensures only { OnlyForm (one (parsed_by result)) bytes.now }
+fn parse(bytes: &[u8; RECORD_LEN], offset: usize) -> Result<Record<'_>, ReadFault>
+    requires { offset + 24 < 2 ^ 64 }
+    ensures said { parse_answer_of result ≡ parse_answer offset bytes.now }
+    ensures only { IsOnlyForm (some_content (parse_answer_of result)) bytes.now }
 {
-    let kind = Kind::try_from(bytes[0]).map_err(|_| ReadFault::UnknownKind { place })?;
+    let kind = Kind::try_from(bytes[0]).map_err(|_| ReadFault::UnknownKind { offset })?;
     if let Some(at) = kind.first_forbidden(bytes) {
-        return Err(ReadFault::Forbidden { place: place + at });
+        return Err(ReadFault::Forbidden {
+            offset: offset + at,
+        });
     }
     Ok(content_of(kind, bytes))
 }
@@ -54,7 +56,7 @@ fn parse(bytes: &[u8; RECORD_LEN], place: usize) -> Result<Record<'_>, ReadFault
 #[derive(Drop)]
 pub struct Reader<'a> {
     input: &'a [u8],
-    place: usize,
+    offset: usize,
 }
 
 impl<'a> Model for Reader<'a> {
@@ -63,25 +65,25 @@ impl<'a> Model for Reader<'a> {
 
     ghost Value = { Position };
 
-    ghost view = { λ r. record { input = r.input.now; place = r.place } };
+    ghost view = { λ r. record { input = r.input.now; offset = r.offset } };
 
-    ghost invariant = { λ r. r.place ≤ length r.input.now };
+    ghost invariant = { λ r. r.offset ≤ length r.input.now };
 }
 
 impl<'a> Reader<'a> {
     /// A reader at the start of the input.
     pub fn new(input: &'a [u8]) -> Reader<'a>
-        ensures { result ≡ record { input = input.now; place = 0 } }
+        ensures { result ≡ record { input = input.now; offset = 0 } }
     {
-        Reader { input, place: 0 }
+        Reader { input, offset: 0 }
     }
 
     /// The place of the next record, in bytes from the start of the input.
-    pub fn place(&self) -> usize
-        ensures place { result ≡ self.now.place }
+    pub fn offset(&self) -> usize
+        ensures offset { result ≡ self.now.offset }
         ensures within { result ≤ length self.now.input }
     {
-        self.place
+        self.offset
     }
 
     /// The next record, or `None` at the end of the input.
@@ -89,20 +91,20 @@ impl<'a> Reader<'a> {
     /// Refuses a record that is cut, of an unknown kind or with a byte that its layout forbids, with the values that
     /// [`ReadFault`] names. After the last two it goes on with the next record.
     pub fn next(&mut self) -> Result<Option<Record<'a>>, ReadFault>
-        ensures said { read_by result ≡ read_at self.old.input self.old.place }
-        ensures only { OnlyForm (read_by result) (part self.old.place 24 self.old.input) }
-        ensures after { self.new ≡ after self.old }
-        ensures within { self.new.place ≤ length self.new.input }
+        ensures said { read_answer_of result ≡ read_answer self.old.input self.old.offset }
+        ensures only { IsOnlyForm (read_answer_of result) (part self.old.offset 24 self.old.input) }
+        ensures after { self.new ≡ position_after self.old }
+        ensures within { self.new.offset ≤ length self.new.input }
     {
-        let place = self.place;
-        let left = &self.input[place..];
+        let offset = self.offset;
+        let left = &self.input[offset..];
         if left.is_empty() {
             return Ok(None);
         }
         let Some(bytes) = left.first_chunk::<RECORD_LEN>() else {
-            return Err(ReadFault::Cut { place });
+            return Err(ReadFault::Cut { offset });
         };
-        self.place += RECORD_LEN;
-        parse(bytes, place).map(Some)
+        self.offset += RECORD_LEN;
+        parse(bytes, offset).map(Some)
     }
 }

@@ -1,8 +1,8 @@
 // The writer: one record into the caller's list.
 ghost use Rattle.std.specs.Prelude.{◌≡◌, ◌^◌, ◌<◌, true, length, take, is_ok, OnOk};
 ghost use Rattle.layout.specs.Content.{content_of};
-ghost use Rattle.layout.specs.Writing.{laid_out, encoded, encoded_by, checked, checked_offer, write_of, written_into};
-ghost use Rattle.layout.specs.RoundTrip.{Sized, bare, ReadsAs};
+ghost use Rattle.layout.specs.Writing.{kind_bytes, encoding_of, encode_answer, write_check, offer_check, write_answer, list_after};
+ghost use Rattle.layout.specs.RoundTrip.{IsSizedContent, trimmed_content, ReadsAs};
 
 use super::label::is_label;
 use super::numbers::Numbers;
@@ -13,7 +13,7 @@ const MAX_TICK: u64 = 0xffff_ffff_ffff;
 
 // Whether the fields of an offer fit their bytes.
 fn check_offer(offer: &Offer<&[u8]>) -> Result<(), WriteFault>
-    ensures { result ≡ checked_offer offer.now.arrival offer.now.deadline offer.now.label.now }
+    ensures { result ≡ offer_check offer.now.arrival offer.now.deadline offer.now.label.now }
 {
     if offer.arrival > MAX_TICK {
         return Err(WriteFault::Field(WrittenField::Arrival));
@@ -39,7 +39,7 @@ const BLANK: Offer<&[u8]> = Offer {
 // 24 bytes of the kind with these fields. That ticket and work fit two bytes is known where they are read.
 fn lay_out(kind: Kind, fields: &Offer<&[u8]>) -> [u8; RECORD_LEN]
     requires { length fields.now.label.now ≡ 6 }
-    ensures bytes { result ≡ laid_out kind fields.now.ticket fields.now.arrival fields.now.deadline fields.now.work fields.now.label.now }
+    ensures bytes { result ≡ kind_bytes kind fields.now.ticket fields.now.arrival fields.now.deadline fields.now.work fields.now.label.now }
     ensures sized { (fields.now.ticket < 2 ^ 16) × (fields.now.work < 2 ^ 16) }
 {
     let numbers = Numbers {
@@ -54,8 +54,8 @@ fn lay_out(kind: Kind, fields: &Offer<&[u8]>) -> [u8; RECORD_LEN]
 
 // The bytes of the record, where its fields fit them.
 fn encode(entry: &Record) -> Result<[u8; RECORD_LEN], WriteFault>
-    ensures said { result ≡ encoded_by (checked (content_of entry.now)) (encoded (content_of entry.now)) }
-    ensures sized { OnOk result (Sized (content_of entry.now)) }
+    ensures said { result ≡ encode_answer (write_check (content_of entry.now)) (encoding_of (content_of entry.now)) }
+    ensures sized { OnOk result (IsSizedContent (content_of entry.now)) }
 {
     match *entry {
         Record::Offer(offer) => {
@@ -78,9 +78,9 @@ fn encode(entry: &Record) -> Result<[u8; RECORD_LEN], WriteFault>
 /// Reader::new(&bytes).next()   // Ok(Some(Record::Strike { ticket: 7 }))
 /// ```
 pub fn write(entry: &Record, out: &mut [u8]) -> Result<(), WriteFault>
-    ensures said { result ≡ write_of (content_of entry.now) out.old }
-    ensures written { out.new ≡ written_into (content_of entry.now) out.old }
-    ensures back { is_ok result ≡ true → ReadsAs (take 24 out.new) (bare (content_of entry.now)) }
+    ensures said { result ≡ write_answer (content_of entry.now) out.old }
+    ensures written { out.new ≡ list_after (content_of entry.now) out.old }
+    ensures back { is_ok result ≡ true → ReadsAs (take 24 out.new) (trimmed_content (content_of entry.now)) }
 {
     let bytes = encode(entry)?;
     if out.len() < RECORD_LEN {

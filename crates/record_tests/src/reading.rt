@@ -14,8 +14,8 @@ const TICK_PLACES: &[u8; 24] = b"kzzzzzzzzzzzzzzzzzssssss";
 // The edges of each of these.
 const EDGES: [u8; 8] = [0x00, 0x01, 0x1f, 0x20, 0x21, 0x7e, 0x7f, 0xff];
 
-fn may_stand(place: u8, byte: u8) -> bool {
-    match place {
+fn may_stand(offset: u8, byte: u8) -> bool {
+    match offset {
         b'z' => byte == 0,
         b'n' => true,
         b'p' => matches!(byte, 0x20..=0x7e),
@@ -28,23 +28,23 @@ fn may_stand(place: u8, byte: u8) -> bool {
 fn first_fault(input: &[u8]) -> (Option<ReadFault>, usize) {
     let mut reader = Reader::new(input);
     let fault = reader.next().err();
-    (fault, reader.place())
+    (fault, reader.offset())
 }
 
 // Every edge at one place of a record.
-fn check_place(rt: &impl Abort, good: [u8; 24], at: usize, place: u8) {
+fn check_place(rt: &impl Abort, good: [u8; 24], at: usize, offset: u8) {
     assert!(rt; at < 24);
     for byte in EDGES {
         let mut bytes = good;
         bytes[at] = byte;
-        let fault = (!may_stand(place, byte)).then_some(ReadFault::Forbidden { place: at });
+        let fault = (!may_stand(offset, byte)).then_some(ReadFault::Forbidden { offset: at });
         assert_eq!(rt; first_fault(&bytes), (fault, 24));
     }
 }
 
 fn check_places(rt: &impl Abort, good: [u8; 24], places: &[u8; 24]) {
-    for (at, place) in places.iter().enumerate().skip(1) {
-        check_place(rt, good, at, *place);
+    for (at, offset) in places.iter().enumerate().skip(1) {
+        check_place(rt, good, at, *offset);
     }
 }
 
@@ -86,7 +86,7 @@ fn only_three_bytes_are_kinds(rt: HostRuntime) {
         let mut bytes = TICK;
         bytes[0] = kind;
         let is_kind = matches!(kind, 0x4f | 0x53 | 0x54);
-        let fault = (!is_kind).then_some(ReadFault::UnknownKind { place: 0 });
+        let fault = (!is_kind).then_some(ReadFault::UnknownKind { offset: 0 });
         assert_eq!(rt; first_fault(&bytes), (fault, 24));
     }
 }
@@ -97,7 +97,7 @@ fn a_cut_record_is_not_passed(rt: HostRuntime) {
         assert!(rt; len <= TICK.len());
         assert_eq!(rt;
             first_fault(&TICK[0..len]),
-            (Some(ReadFault::Cut { place: 0 }), 0)
+            (Some(ReadFault::Cut { offset: 0 }), 0)
         );
     }
 }
@@ -109,7 +109,7 @@ fn the_input_ends_after_whole_records(rt: HostRuntime) {
     assert_eq!(rt; reader.next(), Ok(Some(Record::Tick)));
     assert_eq!(rt; reader.next(), Ok(None));
     assert_eq!(rt; reader.next(), Ok(None));
-    assert_eq!(rt; reader.place(), 24);
+    assert_eq!(rt; reader.offset(), 24);
 }
 
 #[test]
@@ -120,12 +120,12 @@ fn bad_records_are_passed_over(rt: HostRuntime) {
     input[41] = 1;
     input[48..72].copy_from_slice(&STRIKE);
     let mut reader = Reader::new(&input);
-    assert_eq!(rt; reader.next(), Err(ReadFault::UnknownKind { place: 0 }));
-    assert_eq!(rt; reader.next(), Err(ReadFault::Forbidden { place: 41 }));
+    assert_eq!(rt; reader.next(), Err(ReadFault::UnknownKind { offset: 0 }));
+    assert_eq!(rt; reader.next(), Err(ReadFault::Forbidden { offset: 41 }));
     assert_eq!(rt; reader.next(), Ok(Some(Record::Strike { ticket: 0x0102 })));
-    assert_eq!(rt; reader.place(), 72);
-    assert_eq!(rt; reader.next(), Err(ReadFault::Cut { place: 72 }));
-    assert_eq!(rt; reader.place(), 72);
+    assert_eq!(rt; reader.offset(), 72);
+    assert_eq!(rt; reader.next(), Err(ReadFault::Cut { offset: 72 }));
+    assert_eq!(rt; reader.offset(), 72);
 }
 
 // The label that is read where these six bytes stand.

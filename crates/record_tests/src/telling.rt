@@ -7,15 +7,15 @@ use transcript::BenchFault;
 #[test]
 fn each_fault_has_its_number_and_value(rt: HostRuntime) {
     assert_eq!(rt;
-        Refusal::from(ReadFault::Cut { place: 72 }),
+        Refusal::from(ReadFault::Cut { offset: 72 }),
         Refusal::with_value(Layer::Record, 1, 72)
     );
     assert_eq!(rt;
-        Refusal::from(ReadFault::UnknownKind { place: 72 }),
+        Refusal::from(ReadFault::UnknownKind { offset: 72 }),
         Refusal::with_value(Layer::Record, 2, 72)
     );
     assert_eq!(rt;
-        Refusal::from(ReadFault::Forbidden { place: 73 }),
+        Refusal::from(ReadFault::Forbidden { offset: 73 }),
         Refusal::with_value(Layer::Record, 3, 73)
     );
     assert_eq!(rt;
@@ -48,7 +48,7 @@ fn book_passed_up(fault: BookFault) -> Result<(), BenchFault> {
 
 #[test]
 fn a_fault_passes_up_whole(rt: HostRuntime) {
-    let fault = ReadFault::Forbidden { place: 73 };
+    let fault = ReadFault::Forbidden { offset: 73 };
     let whole = BenchFault::Book(BookFault::Read(fault));
     assert_eq!(rt; passed_up(fault), Err(whole));
     assert_eq!(rt;
@@ -56,8 +56,8 @@ fn a_fault_passes_up_whole(rt: HostRuntime) {
         Refusal::with_value(Layer::Record, 3, 73)
     );
     assert!(rt; !whole.ends_run());
-    assert!(rt; !BenchFault::from(ReadFault::UnknownKind { place: 72 }).ends_run());
-    assert!(rt; BenchFault::from(ReadFault::Cut { place: 72 }).ends_run());
+    assert!(rt; !BenchFault::from(ReadFault::UnknownKind { offset: 72 }).ends_run());
+    assert!(rt; BenchFault::from(ReadFault::Cut { offset: 72 }).ends_run());
 }
 
 #[test]

@@ -88,8 +88,8 @@ fn a_short_list_is_refused(rt: HostRuntime) {
 // The records stand in a file one after another.
 fn file_of(rt: &impl Abort, entries: &[Record; 4]) -> [u8; 96] {
     let mut file = [0u8; 96];
-    for (entry, place) in entries.iter().zip(file.chunks_mut(24)) {
-        assert_eq!(rt; write(entry, place), Ok(()));
+    for (entry, offset) in entries.iter().zip(file.chunks_mut(24)) {
+        assert_eq!(rt; write(entry, offset), Ok(()));
     }
     file
 }

@@ -4,12 +4,12 @@ use Rattle.refusal.specs.declared.Values.TheVariants.{One, Three}
 use Rattle.refusal.specs.declared.Refusal.{Refusal}
 
 -- a space, then the number
-abbrev pub spaced : ℕ → List ℕ
-spaced n = 32 ∷ decimal n
+abbrev pub spaced_number : ℕ → List ℕ
+spaced_number n = 32 ∷ decimal n
 
 abbrev pub values_text : Values → List ℕ
-values_text (One a) = spaced a
-values_text (Three a b c) = spaced a ++ (spaced b ++ spaced c)
+values_text (One a) = spaced_number a
+values_text (Three a b c) = spaced_number a ++ (spaced_number b ++ spaced_number c)
 
 -- the number and the values, one space between
 abbrev pub refusal_text : Refusal → List ℕ

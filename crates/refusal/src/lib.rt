@@ -3,7 +3,7 @@
 
 ghost use Rattle.std.specs.Prelude.{◌≡◌, Some};
 ghost use Rattle.refusal.specs.Text.{refusal_text};
-ghost use Rattle.refusal.specs.Told.{refused_by};
+ghost use Rattle.refusal.specs.Told.{refusal_with};
 
 use std::fmt;
 
@@ -36,7 +36,7 @@ pub struct Refusal {
 impl Refusal {
     /// The refusal of a layer with its number and one value.
     pub fn with_value(layer: Layer, number: u8, value: u64) -> Refusal
-        ensures { result ≡ refused_by layer number value }
+        ensures { result ≡ refusal_with layer number value }
     {
         Refusal {
             layer,

@@ -5,22 +5,22 @@ use Rattle.std.specs.Option.{option_map, option_or}
 use Rattle.layout.specs.declared.fault.ReadFault.{ReadFault}
 use Rattle.layout.specs.declared.fault.ReadFault.TheVariants.{Cut, UnknownKind, Forbidden}
 use Rattle.layout.specs.Content.{Content}
-use Rattle.layout.specs.Reading.{one}
+use Rattle.layout.specs.Reading.{some_content}
 use Rattle.book.specs.declared.fault.BookFault.{BookFault}
 use Rattle.book.specs.declared.fault.BookFault.TheVariants.{Field, TicketOpen, Full, NotOpen, Short, LastTick}
 use Rattle.book.specs.declared.fault.BookField.{BookField}
 use Rattle.book.specs.declared.job.Job.{Job}
 use Rattle.book.specs.declared.tick.Entry.{Entry as Share}
-use Rattle.book.specs.Book.{View, last_tick, with_jobs}
-use Rattle.book.specs.Calls.{outcome, field_fault, place_fault, early_fault, overload_at, overload_in, overload_fault, counted, offer_fault, strike_fault}
-use Rattle.book.specs.Jobs.{is_open, without}
-use Rattle.book.specs.Ticks.{ticking, tick_fault}
+use Rattle.book.specs.Book.{View, last_tick, book_with_jobs}
+use Rattle.book.specs.Calls.{outcome, field_fault, place_fault, early_fault, overload_fault_at, first_overload_of, overload_fault, book_with_job, offer_fault, strike_fault}
+use Rattle.book.specs.Jobs.{is_ticket_open, jobs_without}
+use Rattle.book.specs.Ticks.{tick_outcome_by, tick_fault}
 use Rattle.life.specs.declared.Request.{Request}
 use Rattle.life.specs.declared.Request.TheVariants.{Offer, Strike, Tick}
 use Rattle.life.specs.declared.Response.{Response}
-use Rattle.life.specs.Requests.{done_by, served_by, handled}
+use Rattle.life.specs.Requests.{done_by, served_by, request_outcome}
 use Rattle.transcript.specs.Refusals.{ends_book}
-use Rattle.transcript.specs.Entries.{entry_unless, request_by, no_entries, content_step, read_step, told_entry, over_by}
+use Rattle.transcript.specs.Entries.{line_unless, request_of, no_entries, content_outcome, read_outcome, line_of_answer, is_over_after}
 
 -- a fault, if there is one, does not end the run
 abbrev Quiet : Option BookFault → Type 0
@@ -39,23 +39,23 @@ quiet_field : (o : Option BookField) → Quiet (option_map Field o)
 quiet_field None = tt
 quiet_field (Some f) = refl
 
-quiet_overload : (b : View) (o : Option (ℕ × ℕ)) → Quiet (option_map (overload_at b) o)
+quiet_overload : (b : View) (o : Option (ℕ × ℕ)) → Quiet (option_map (overload_fault_at b) o)
 quiet_overload b None = tt
 quiet_overload b (Some ab) = refl
 
 quiet_place : (jobs : List Job) (j : Job) → Quiet (place_fault jobs j)
 quiet_place jobs j =
-    quiet_if (is_open j.ticket jobs) (Some (TicketOpen j.ticket)) (if nat_le 64 (length jobs) then Some (Full 64) else None) refl
+    quiet_if (is_ticket_open j.ticket jobs) (Some (TicketOpen j.ticket)) (if nat_le 64 (length jobs) then Some (Full 64) else None) refl
     (quiet_if (nat_le 64 (length jobs)) (Some (Full 64)) None refl tt)
 
 quiet_offer : (b : View) (j : Job) → Quiet (offer_fault b j)
 quiet_offer b j =
-    quiet_or (early_fault b j) (overload_fault (counted b j))
+    quiet_or (early_fault b j) (overload_fault (book_with_job b j))
     (quiet_or (option_map Field (field_fault b.now j)) (place_fault b.jobs j) (quiet_field (field_fault b.now j)) (quiet_place b.jobs j))
-    (quiet_overload (counted b j) (overload_in (counted b j)))
+    (quiet_overload (book_with_job b j) (first_overload_of (book_with_job b j)))
 
 quiet_strike : (b : View) (ticket : ℕ) → Quiet (strike_fault b ticket)
-quiet_strike b ticket = quiet_if (is_open ticket b.jobs) None (Some (NotOpen ticket)) tt refl
+quiet_strike b ticket = quiet_if (is_ticket_open ticket b.jobs) None (Some (NotOpen ticket)) tt refl
 
 quiet_tick : (b : View) (list : List Share) → Quiet (tick_fault b list)
 quiet_tick b list =
@@ -71,35 +71,35 @@ call_going : (o : Option BookFault) (before after : View) → Quiet o → Going 
 call_going None before after q = tt
 call_going (Some f) before after q = q
 
-tick_going : (o : Option BookFault) (b : View) (list : List Share) → Quiet o → Going (served_by (ticking o b list).answer)
+tick_going : (o : Option BookFault) (b : View) (list : List Share) → Quiet o → Going (served_by (tick_outcome_by o b list).answer)
 tick_going None b list q = tt
 tick_going (Some f) b list q = q
 
-handled_going : (b : View) (r : Request) (list : List Share) → Going (handled b r list).answer
-handled_going b (Offer j) list = call_going (offer_fault b j) b (counted b j) (quiet_offer b j)
-handled_going b (Strike t) list = call_going (strike_fault b t) b (with_jobs (without t b.jobs) b) (quiet_strike b t)
+handled_going : (b : View) (r : Request) (list : List Share) → Going (request_outcome b r list).answer
+handled_going b (Offer j) list = call_going (offer_fault b j) b (book_with_job b j) (quiet_offer b j)
+handled_going b (Strike t) list = call_going (strike_fault b t) b (book_with_jobs (jobs_without t b.jobs) b) (quiet_strike b t)
 handled_going b Tick list = tick_going (tick_fault b list) b list (quiet_tick b list)
 
-answer_goes_on : (b : View) (c : Content) (answer : Result Response BookFault) → Going answer → over_by (entry_unless b c answer) ≡ false
+answer_goes_on : (b : View) (c : Content) (answer : Result Response BookFault) → Going answer → is_over_after (line_unless b c answer) ≡ false
 answer_goes_on b c (Ok response) g = refl
 answer_goes_on b c (Err f) g = g
 
-content_goes_on : (b : View) (c : Content) → over_by (content_step b c).answer ≡ false
-content_goes_on b c = answer_goes_on b c (handled b (request_by c) no_entries).answer (handled_going b (request_by c) no_entries)
+content_goes_on : (b : View) (c : Content) → is_over_after (content_outcome b c).answer ≡ false
+content_goes_on b c = answer_goes_on b c (request_outcome b (request_of c) no_entries).answer (handled_going b (request_of c) no_entries)
 
 -- a record that is not cut does not end the run
-pub goes_on : (b : View) (r : Result Content ReadFault) → ((at : ℕ) → r ≡ Err (Cut at) → ⊥) → over_by (read_step b (one r)).answer ≡ false
+pub goes_on : (b : View) (r : Result Content ReadFault) → ((at : ℕ) → r ≡ Err (Cut at) → ⊥) → is_over_after (read_outcome b (some_content r)).answer ≡ false
 goes_on b (Ok c) h = content_goes_on b c
 goes_on b (Err (Cut at)) h = absurd (h at refl)
 goes_on b (Err (UnknownKind at)) h = refl
 goes_on b (Err (Forbidden at)) h = refl
 
 -- an answered record has an entry
-answer_said : (b : View) (place : ℕ) (c : Content) (answer : Result Response BookFault) → told_entry place (entry_unless b c answer) ≡ None → ⊥
-answer_said b place c (Ok response) n = cc
-answer_said b place c (Err f) n = cc
+answer_said : (b : View) (offset : ℕ) (c : Content) (answer : Result Response BookFault) → line_of_answer offset (line_unless b c answer) ≡ None → ⊥
+answer_said b offset c (Ok response) n = cc
+answer_said b offset c (Err f) n = cc
 
 -- so each record has one
-pub said : (b : View) (place : ℕ) (r : Result Content ReadFault) → told_entry place (read_step b (one r)).answer ≡ None → ⊥
-said b place (Ok c) n = answer_said b place c (handled b (request_by c) no_entries).answer n
-said b place (Err f) n = cc
+pub said : (b : View) (offset : ℕ) (r : Result Content ReadFault) → line_of_answer offset (read_outcome b (some_content r)).answer ≡ None → ⊥
+said b offset (Ok c) n = answer_said b offset c (request_outcome b (request_of c) no_entries).answer n
+said b offset (Err f) n = cc

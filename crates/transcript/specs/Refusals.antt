@@ -14,9 +14,9 @@ bench_refusal (Book e) = book_refusal e
 
 -- whether no record can follow
 abbrev pub ends_book : BookFault → Bool
-ends_book (Read (Cut place)) = true
-ends_book (Read (UnknownKind place)) = false
-ends_book (Read (Forbidden place)) = false
+ends_book (Read (Cut offset)) = true
+ends_book (Read (UnknownKind offset)) = false
+ends_book (Read (Forbidden offset)) = false
 ends_book (Field f) = false
 ends_book (TicketOpen ticket) = false
 ends_book (Full places) = false

@@ -1,36 +1,36 @@
 -- The transcript as text: fields with one space between, and a line feed after each line.
 use Rattle.std.specs.Prelude.{ℕ, ◌+◌, ◌*◌, ◌/◌, List, [], ◌∷◌, ◌++◌, length, Some, None, codes, decimal, Option}
 use Rattle.std.specs.List.{range_with_len, flat_map}
-use Rattle.refusal.specs.Text.{spaced, refusal_text}
+use Rattle.refusal.specs.Text.{spaced_number, refusal_text}
 use Rattle.book.specs.declared.tick.Entry.{Entry as Share}
 use Rattle.transcript.specs.Refusals.{bench_refusal}
-use Rattle.transcript.specs.Entries.{Entry, taken, closed, served, refused, entry_at, book_before}
+use Rattle.transcript.specs.Entries.{PlainLine, offered, struck, ticked, refused, line_at, book_before}
 
 -- a space, then the ticket and the units
-abbrev pub share_text : Share → List ℕ
-share_text s = spaced s.ticket ++ (codes ":" ++ decimal s.units)
+abbrev pub entry_text : Share → List ℕ
+entry_text s = spaced_number s.ticket ++ (codes ":" ++ decimal s.units)
 
 abbrev pub tick_text : (now setting : ℕ) → List Share → List ℕ
-tick_text now setting shares = codes "T" ++ (spaced now ++ (spaced setting ++ flat_map share_text shares))
+tick_text now setting shares = codes "T" ++ (spaced_number now ++ (spaced_number setting ++ flat_map entry_text shares))
 
-abbrev pub entry_text : Entry → List ℕ
-entry_text (taken t l) = codes "O" ++ (spaced t ++ (codes " ok " ++ l))
-entry_text (closed t) = codes "S" ++ (spaced t ++ codes " ok")
-entry_text (served now setting shares) = tick_text now setting shares
-entry_text (refused place f) = codes "R" ++ (spaced place ++ (32 ∷ refusal_text (bench_refusal f)))
+abbrev pub plain_line_text : PlainLine → List ℕ
+plain_line_text (offered t l) = codes "O" ++ (spaced_number t ++ (codes " ok " ++ l))
+plain_line_text (struck t) = codes "S" ++ (spaced_number t ++ codes " ok")
+plain_line_text (ticked now setting shares) = tick_text now setting shares
+plain_line_text (refused offset f) = codes "R" ++ (spaced_number offset ++ (32 ∷ refusal_text (bench_refusal f)))
 
-abbrev pub line_text : Option Entry → List ℕ
-line_text (Some e) = entry_text e ++ (10 ∷ [])
-line_text None = []
+abbrev pub line_text_of : Option PlainLine → List ℕ
+line_text_of (Some e) = plain_line_text e ++ (10 ∷ [])
+line_text_of None = []
 
 -- how many records begin in the input
-abbrev pub records : List ℕ → ℕ
-records input = (length input + 23) / 24
+abbrev pub record_count : List ℕ → ℕ
+record_count input = (length input + 23) / 24
 
 -- the line of the record k
-abbrev pub line_at : List ℕ → ℕ → List ℕ
-line_at input k = line_text (entry_at (book_before input k) input (24 * k))
+abbrev pub text_at : List ℕ → ℕ → List ℕ
+text_at input k = line_text_of (line_at (book_before input k) input (24 * k))
 
 -- a line for each record, in their order
 abbrev pub transcript : List ℕ → List ℕ
-transcript input = flat_map (line_at input) (range_with_len 0 (records input))
+transcript input = flat_map (text_at input) (range_with_len 0 (record_count input))

@@ -1,9 +1,9 @@
 // The bench works the records of a file one by one.
 ghost use Rattle.std.specs.Prelude.{◌≡◌, IsAscii};
 ghost use Rattle.layout.specs.Content.{content_of};
-ghost use Rattle.transcript.specs.Entries.{entry_by, request_by, step_by};
+ghost use Rattle.transcript.specs.Entries.{plain_option, request_of, plain_answer};
 ghost use Rattle.std.specs.Iterator.{at_most};
-ghost use Rattle.transcript.specs.Run.{start_of, step_of, passed, lines_left, SaysNext};
+ghost use Rattle.transcript.specs.Run.{start_run, run_outcome, run_after_record, lines_left, GivesNext};
 
 use super::fault::BenchFault;
 use super::line::{Line, Tick};
@@ -36,7 +36,7 @@ fn text(label: &[u8]) -> &str
 
 // What a record asks of the book.
 fn request_of(said: &Record) -> Request
-    ensures { result ≡ request_by (content_of said.now) }
+    ensures { result ≡ request_of (content_of said.now) }
 {
     match *said {
         Record::Offer(
@@ -76,13 +76,13 @@ impl<'a> Model for Bench<'a> {
 
     ghost view = { run_of };
 
-    ghost invariant = { λ b. b.reader.place ≤ length b.reader.input };
+    ghost invariant = { λ b. b.reader.offset ≤ length b.reader.input };
 }
 
 impl<'a> Bench<'a> {
     /// A bench at the start of the input, with a book at 0 with top 4.
     pub fn new(input: &'a [u8]) -> Bench<'a>
-        ensures { result ≡ start_of input.now }
+        ensures { result ≡ start_run input.now }
     {
         let mut book = Book::new();
         book.open(0, TOP).unwrap();
@@ -95,8 +95,8 @@ impl<'a> Bench<'a> {
 
     // Reads the next record and works it, and says what it did.
     fn step(&mut self) -> Result<Option<Line<'a>>, BenchFault>
-        ensures said { step_by result ≡ (step_of self.old).answer }
-        ensures after { self.new ≡ passed self.old }
+        ensures said { plain_answer result ≡ (run_outcome self.old).answer }
+        ensures after { self.new ≡ run_after_record self.old }
     {
         let Some(record) = self.reader.next()? else {
             return Ok(None);
@@ -125,7 +125,7 @@ impl<'a> Bench<'a> {
 impl<'a> Iterator for Bench<'a> {
     type Item = Line<'a>;
 
-    ghost next_gives = { λ run line after. SaysNext run (entry_by line) after };
+    ghost next_gives = { λ run line after. GivesNext run (plain_option line) after };
 
     ghost remaining = { λ run. at_most (lines_left run) };
 
@@ -133,13 +133,13 @@ impl<'a> Iterator for Bench<'a> {
         if self.over {
             return None;
         }
-        let place = self.reader.place();
+        let offset = self.reader.offset();
         // A match: the checker does not cover `unwrap_or_else` of a closure whose answer has a lifetime.
         match self.step() {
             Ok(line) => line,
             Err(fault) => {
                 self.over = fault.ends_run();
-                Some(Line::Refused { place, fault })
+                Some(Line::Refused { offset, fault })
             }
         }
     }

@@ -1,7 +1,7 @@
 // One line of the transcript.
 ghost use Rattle.std.specs.Prelude.{Some, take};
-ghost use Rattle.transcript.specs.Entries.{entry_of};
-ghost use Rattle.transcript.specs.Text.{entry_text, tick_text};
+ghost use Rattle.transcript.specs.Entries.{plain_line};
+ghost use Rattle.transcript.specs.Text.{plain_line_text, tick_text};
 
 use super::fault::BenchFault;
 use book::{Entry, PLACES};
@@ -40,20 +40,20 @@ pub enum Line<'a> {
     Offered { ticket: u16, label: &'a str },
     Struck { ticket: u16 },
     Ticked(Tick),
-    Refused { place: usize, fault: BenchFault },
+    Refused { offset: usize, fault: BenchFault },
 }
 
 impl fmt::Display for Line<'_> {
-    ghost output = { λ l. Some (entry_text (entry_of l)) };
+    ghost output = { λ l. Some (plain_line_text (plain_line l)) };
 
     fn fmt<W: fmt::Write>(&self, f: &mut fmt::Formatter<W>) -> fmt::Result {
         match *self {
             Line::Offered { ticket, label } => write!(f, "O {ticket} ok {label}"),
             Line::Struck { ticket } => write!(f, "S {ticket} ok"),
             Line::Ticked(tick) => write!(f, "{tick}"),
-            Line::Refused { place, fault } => {
+            Line::Refused { offset, fault } => {
                 let refusal = Refusal::from(fault);
-                write!(f, "R {place} {refusal}")
+                write!(f, "R {offset} {refusal}")
             }
         }
     }

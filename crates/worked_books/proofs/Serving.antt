@@ -4,15 +4,15 @@ use Rattle.std.proofs.Math.Seq.{take-append_seam}
 use Rattle.book.specs.declared.tick.Entry.{Entry}
 use Rattle.book.specs.Book.{View, last_tick}
 use Rattle.book.specs.Settings.{settings_of}
-use Rattle.book.specs.Ticks.{shares, shares_of, entries}
-use Rattle.worked_books.specs.Words.{Serves}
+use Rattle.book.specs.Ticks.{shares, shares_of, entries_of}
+use Rattle.worked_books.specs.Words.{TickServes}
 
 pub serves : (b : View) (setting : ℕ) (es : List Entry) → (b.now == last_tick) ≡ false → settings_of b 0 ≡ setting
-    → entries (shares b.now setting b.jobs) ≡ es → Serves b setting es
+    → entries_of (shares b.now setting b.jobs) ≡ es → TickServes b setting es
 serves b setting es more first at_setting = record {
   answer = λ list enough. rw (enough, more) (λ i. Ok (record { setting = first i; count = length (shared i) }));
   written = λ list enough. rw (enough, more, shared) (take-append_seam es (drop (length es) list));
 }
   where
-    shared : entries (shares_of b) ≡ es
-    shared = ap (λ u. entries (shares b.now u b.jobs)) first ∙ at_setting
+    shared : entries_of (shares_of b) ≡ es
+    shared = ap (λ u. entries_of (shares b.now u b.jobs)) first ∙ at_setting

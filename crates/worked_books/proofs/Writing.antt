@@ -10,12 +10,12 @@ use Rattle.schedule.specs.Certificate.{listed}
 use Rattle.schedule.proofs.Theory.{theory}
 use Rattle.book.specs.declared.blocks.Block.{Block}
 use Rattle.book.specs.Book.{View}
-use Rattle.book.specs.Settings.{settings_of, with_settings}
+use Rattle.book.specs.Settings.{settings_of, list_with_settings}
 use Rattle.book.specs.Blocks.{blocks_of}
 use Rattle.worked_books.specs.Words.{Sets, HasBlocks}
 
 -- the settings in force stand in the first places of a list that they are written into
-first_places : (b : View) (list : List ℕ) → Same horizon (listed (with_settings b list)) (settings_of b)
+first_places : (b : View) (list : List ℕ) → Same horizon (listed (list_with_settings b list)) (settings_of b)
 first_places b list t lt =
     let places = map (settings_of b) (range_with_len 0 horizon) in
     get_or_append_left places (drop horizon list) 0 t (omega (arith, length-map-range_with_len (settings_of b) 0 horizon))

@@ -2,7 +2,7 @@
 use Rattle.std.specs.Prelude.{◌≡◌, [], ◌∷◌, replicate}
 use Rattle.power.specs.Draws.{cube_draw, floor_draw}
 use Rattle.book.specs.Bills.{bill_of}
-use Rattle.worked_books.specs.Words.{job, Worked, Sets, HasBlocks, Serves, Overloads, Breaks}
+use Rattle.worked_books.specs.Words.{job, Worked, Sets, HasBlocks, TickServes, Overloads, Breaks}
 
 -- 1. no job: all 256 settings are 0, and the cube model with the fixed draw 10 and the factor 1 bills 256 times 10
 abbrev pub NoJob : Type 0
@@ -26,7 +26,7 @@ Even = Worked 4 (job 1 2 3 1 ∷ job 2 0 3 2 ∷ []) (λ b. Sets b (1 ∷ 1 ∷ 
 
 -- 5. [0, 1) 2 twice: with the top 4 the lesser ticket is served first
 abbrev pub SameDeadline : Type 0
-SameDeadline = Worked 4 (job 1 0 1 2 ∷ job 2 0 1 2 ∷ []) (λ b. Serves b 4 (record { ticket = 1; units = 2 } ∷ record { ticket = 2; units = 2 } ∷ []))
+SameDeadline = Worked 4 (job 1 0 1 2 ∷ job 2 0 1 2 ∷ []) (λ b. TickServes b 4 (record { ticket = 1; units = 2 } ∷ record { ticket = 2; units = 2 } ∷ []))
 
 -- and with the top 3 the second offer is refused
 abbrev pub LowTop : Type 0

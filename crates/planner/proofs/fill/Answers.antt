@@ -10,14 +10,14 @@ loop-preserved c =
     let d = c.args.demand.now in
     let i = c.loop.counter in
     let st = state_of c.loop.plan in
-    let after = state_of c.place_unit.new.plan in
+    let after = state_of c.allocate_unit.new.plan in
     let before = c.loop.invariant in
-    let placed : after ≡ place_at d.from (spot d.from d.to st) st = rw (← before.from, ← before.to) c.place_unit.ensures.placed in
+    let placed : after ≡ place_at d.from (spot d.from d.to st) st = rw (← before.from, ← before.to) c.allocate_unit.ensures.placed in
     let lt : i < d.units = omega (arith, ap (λ (x : Demand). x.units) c.demand.view_is) in
     record {
       room = unit_room i d.from d.to st after (omega arith) placed before.room;
-      hull = c.place_unit.ensures.hull;
-      from = c.place_unit.ensures.window.0 ∙ before.from;
-      to = c.place_unit.ensures.window.1 ∙ before.to;
+      hull = c.allocate_unit.ensures.hull;
+      from = c.allocate_unit.ensures.window.0 ∙ before.from;
+      to = c.allocate_unit.ensures.window.1 ∙ before.to;
       rest = unit_filled i d.units d.from d.to st after lt placed ∙ before.rest;
     }

@@ -1,7 +1,7 @@
 use Rattle.std.proofs.Common.{◌∙◌, sym, ap, arith}
 use Rattle.schedule.specs.Placing.{run}
 use Rattle.planner.specs.Plan.{state_of}
-use Rattle.planner.proofs.Runs.{empty_room, demand_room, demand_run, window, all_run, loads_same, loads_in_force}
+use Rattle.planner.proofs.Runs.{empty_room, demand_room, demand_run, window, all_run, units_same, units_in_force}
 use Rattle.planner.proofs.settings.Goals as goal
 
 pub loop-demand-init : goal.loop-demand-init
@@ -27,4 +27,4 @@ returns c =
     let ds = c.demands.inside.list.now in
     let p = c.loop-demand.plan in
     let done = sym (all_run ds c.loop-demand.demand-index (state_of p) c.loop-demand-test.false) ∙ c.loop-demand.invariant.rest in
-    rw (← c.demands.view_is) (record { settings = loads_same ds p c.demands.invariant done; in_force = loads_in_force ds p c.demands.invariant done })
+    rw (← c.demands.view_is) (record { settings = units_same ds p c.demands.invariant done; in_force = units_in_force ds p c.demands.invariant done })

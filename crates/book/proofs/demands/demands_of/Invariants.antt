@@ -2,5 +2,5 @@ use Rattle.std.proofs.Common.{◌≡◌, take}
 use Rattle.book.specs.Demands.{demands}
 use Rattle.book.proofs.demands.demands_of.Given as goal
 
-abbrev pub invariant-loop-place : goal.invariant-loop-place
-invariant-loop-place l = take l.place l.places ≡ demands l.now (take l.place l.jobs)
+abbrev pub invariant-loop-index : goal.invariant-loop-index
+invariant-loop-index l = take l.index l.places ≡ demands l.now (take l.index l.jobs)

@@ -1,7 +1,7 @@
 use Rattle.std.proofs.Common.{◌∙◌, is_some, ap, sym, subst}
 use Rattle.std.specs.List.{All}
 use Rattle.std.proofs.lemmas.Result.{err_from_is_err_and}
-use Rattle.book.specs.Book.{OpenAt, InOrder}
+use Rattle.book.specs.Book.{IsOpenAt, IsInOrder}
 use Rattle.book.specs.Calls.{overload_fault}
 use Rattle.book.proofs.ImageReading.{book_with, read_short, read_no_clock, read_wrong, well_formed_read, read_overload, read_book, lawful_read}
 use Rattle.book.proofs.loading.read_image.Goals as goal
@@ -26,12 +26,12 @@ overload_fault-requires-clause-in_time c =
 pub overload_fault-requires-clause-in_order : goal.overload_fault-requires-clause-in_order
 overload_fault-requires-clause-in_order c =
     let b = well_formed_read c.args.list.now c.if-list-lt-IMAGE_LEN.false c.as_chunks.result.0.now c.as_chunks.ensures.front c.in-Some.now c.in-Some.top c.in-Some.ensures c.in_ok-jobs.jobs c.in_ok-jobs.ensures in
-    subst InOrder (sym c.jobs.ensures.jobs) b.in_order
+    subst IsInOrder (sym c.jobs.ensures.jobs) b.in_order
 
 pub overload_fault-requires-clause-open : goal.overload_fault-requires-clause-open
 overload_fault-requires-clause-open c =
     let b = well_formed_read c.args.list.now c.if-list-lt-IMAGE_LEN.false c.as_chunks.result.0.now c.as_chunks.ensures.front c.in-Some.now c.in-Some.top c.in-Some.ensures c.in_ok-jobs.jobs c.in_ok-jobs.ensures in
-    subst (All (OpenAt c.in-Some.now)) (sym c.jobs.ensures.jobs) b.jobs_open
+    subst (All (IsOpenAt c.in-Some.now)) (sym c.jobs.ensures.jobs) b.jobs_open
 
 pub returns-then-is_some : goal.returns-then-is_some
 returns-then-is_some c =

@@ -26,4 +26,4 @@ returns-in-Some c =
     let rest = drop (length c.jobs-count.result.now) c.args.records.now in
     let found : c.position.result ≡ position (λ r. not (bytes_eq r blank_record)) rest =
     position_from_yields_List (λ r. not (bytes_eq r blank_record)) _ _ c.position.result c.position.ensures.ran (YieldsList-from_slice rest (c.iter.ensures.rest ∙ take_rest c.args.records.now (length c.jobs-count.result.now))) (λ x b q k. search (rules, tests)) in
-    rest_wrong c.args.now _ c.args.records.now (ap length (c.jobs-count.ensures.jobs ∙ c.leading_jobs-jobs.ensures)) c.in-Some.place (sym found ∙ c.in-Some.is)
+    rest_wrong c.args.now _ c.args.records.now (ap length (c.jobs-count.ensures.jobs ∙ c.leading_jobs-jobs.ensures)) c.in-Some.index (sym found ∙ c.in-Some.is)

@@ -4,23 +4,23 @@ use Rattle.std.proofs.lemmas.List.Sorted.{IsPermutation-trans}
 use Rattle.queue.proofs.Sifting.{exchanged, moved_down, stays_above_children, at_bottom, first_but_below, first_holds}
 use Rattle.queue.proofs.Ranks.{ranks}
 use Rattle.queue.proofs.heap.sift_down.Goals as goal
-use Rattle.queue.proofs.heap.sift_down.Goals.{else-loop-place-test, then-loop-place-test+then-not-is_before}
+use Rattle.queue.proofs.heap.sift_down.Goals.{else-loop-index-test, then-loop-index-test+then-not-is_before}
 
-pub loop-place-init : goal.loop-place-init
-loop-place-init g c = record {
+pub loop-index-init : goal.loop-index-init
+loop-index-init g c = record {
   within = c.requires.nonempty;
   holds = first_holds c.args.heap.now c.args.moving c.requires.nonempty;
   ordered = first_but_below g.T.Rank.before c.args.heap.now c.args.moving c.requires.ordered;
 }
 
-pub loop-place-preserved : goal.loop-place-preserved
-loop-place-preserved g c =
-    let s = c.loop-place.heap in
+pub loop-index-preserved : goal.loop-index-preserved
+loop-index-preserved g c =
+    let s = c.loop-index.heap in
     let x = c.args.moving in
-    let i = c.loop-place.place in
+    let i = c.loop-index.index in
     let j = c.lesser_child-child.result in
     let y = c.index-heap-child.result in
-    let v = c.loop-place.invariant in
+    let v = c.loop-index.invariant in
     let child = c.lesser_child-child.ensures.child in
     let ne : j ≢ i = omega (arith, child.0) in
     let test : true ≡ g.T.Rank.before y x = c.if-not-is_before.ensures in
@@ -33,14 +33,14 @@ loop-place-preserved g c =
 
 pub returns-clause-ordered : goal.returns-clause-ordered
 returns-clause-ordered g c =
-    let s = c.loop-place.heap in
+    let s = c.loop-index.heap in
     let x = c.args.moving in
-    let i = c.loop-place.place in
-    let v = c.loop-place.invariant in
+    let i = c.loop-index.index in
+    let v = c.loop-index.invariant in
     let o = ranks g.met.T.Rank.one g.met.T.Rank.ordered g.met.T.Rank.tied in
-    elim c.loop-place-test.branch [
-      | else-loop-place-test w ↦ at_bottom g.T.Rank.before o (set s i x) i (omega (arith, w.loop-place-test.false, length-set s i x)) v.ordered
-      | then-loop-place-test+then-not-is_before w ↦
+    elim c.loop-index-test.branch [
+      | else-loop-index-test w ↦ at_bottom g.T.Rank.before o (set s i x) i (omega (arith, w.loop-index-test.false, length-set s i x)) v.ordered
+      | then-loop-index-test+then-not-is_before w ↦
           let j = w.lesser_child-child.result in
           let y = w.index-heap-child.result in
           let child = w.lesser_child-child.ensures.child in

@@ -3,12 +3,12 @@ use Rattle.std.specs.List.Sorted.{IsPermutation}
 use Rattle.queue.proofs.Sifting.{OrderedButBelow}
 use Rattle.queue.proofs.heap.sift_down.Given as goal
 
-abbrev pub invariant-loop-place : goal.invariant-loop-place
-invariant-loop-place g l = record {
-  within : l.place < length l.heap;
-  holds : IsPermutation (l.moving ∷ drop 1 l.initial.heap) (set l.heap l.place l.moving);
-  ordered : OrderedButBelow g.T.Rank.before (set l.heap l.place l.moving) l.place;
+abbrev pub invariant-loop-index : goal.invariant-loop-index
+invariant-loop-index g l = record {
+  within : l.index < length l.heap;
+  holds : IsPermutation (l.moving ∷ drop 1 l.initial.heap) (set l.heap l.index l.moving);
+  ordered : OrderedButBelow g.T.Rank.before (set l.heap l.index l.moving) l.index;
 }
 
-abbrev pub decreases-loop-place : goal.decreases-loop-place
-decreases-loop-place g l = length l.heap - l.place
+abbrev pub decreases-loop-index : goal.decreases-loop-index
+decreases-loop-index g l = length l.heap - l.index

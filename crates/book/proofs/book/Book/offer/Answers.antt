@@ -1,6 +1,6 @@
 use Rattle.std.proofs.Common.{◌≡◌, None, Ok, Err, sym, subst, rules}
-use Rattle.book.specs.Book.{View, Lawful}
-use Rattle.book.specs.Calls.{early_fault, offered}
+use Rattle.book.specs.Book.{View, IsLawful}
+use Rattle.book.specs.Calls.{early_fault, offer_outcome}
 use Rattle.book.proofs.Offering.{admissible, no_fault, counted_order, counted_open, lawful-offered, only_overload}
 use Rattle.book.proofs.book.Book.offer.Goals as goal
 
@@ -17,16 +17,16 @@ overload_fault-requires-clause-open c =
     rw (c.jobs.ensures.jobs, c.with_job-jobs.ensures) (counted_open b c.args.job c.self.invariant (admissible b c.args.job early))
 
 pub returns-in_err-check-clause-only_overload : goal.returns-in_err-check-clause-only_overload
-returns-in_err-check-clause-only_overload c = only_overload c.args.self.now c.args.job c.from_residual.result (subst Lawful c.self.view_is c.self.invariant) (search rules)
+returns-in_err-check-clause-only_overload c = only_overload c.args.self.now c.args.job c.from_residual.result (subst IsLawful c.self.view_is c.self.invariant) (search rules)
 
 pub returns-in-Some-clause-only_overload : goal.returns-in-Some-clause-only_overload
-returns-in-Some-clause-only_overload c = only_overload c.args.self.now c.args.job (Err c.in-Some.fault) (subst Lawful c.self.view_is c.self.invariant) (search rules)
+returns-in-Some-clause-only_overload c = only_overload c.args.self.now c.args.job (Err c.in-Some.fault) (subst IsLawful c.self.view_is c.self.invariant) (search rules)
 
 pub invariant_of-self : goal.invariant_of-self
 invariant_of-self c =
     let after : View = record { now = c.self.inside.tick; top = c.self.inside.top; jobs = c.with_job-jobs.result } in
-    let left : after ≡ (offered c.args.self.now c.args.job).book = search rules in
-    subst Lawful (sym left) (lawful-offered c.args.self.now c.args.job (subst Lawful c.self.view_is c.self.invariant))
+    let left : after ≡ (offer_outcome c.args.self.now c.args.job).book = search rules in
+    subst IsLawful (sym left) (lawful-offer_outcome c.args.self.now c.args.job (subst IsLawful c.self.view_is c.self.invariant))
 
 pub returns-clause-only_overload : goal.returns-clause-only_overload
-returns-clause-only_overload c = only_overload c.args.self.now c.args.job (Ok tt) (subst Lawful c.self.view_is c.self.invariant) (search rules)
+returns-clause-only_overload c = only_overload c.args.self.now c.args.job (Ok tt) (subst IsLawful c.self.view_is c.self.invariant) (search rules)

@@ -7,7 +7,7 @@ use Rattle.schedule.proofs.Theory.{theory}
 use Rattle.book.specs.declared.tick.Entry.{Entry}
 use Rattle.book.specs.Book.{View, last_tick}
 use Rattle.book.specs.Settings.{settings_of}
-use Rattle.book.specs.Ticks.{has_work, with_entries}
+use Rattle.book.specs.Ticks.{has_work, list_with}
 use Rattle.book.proofs.Serving.{jobs_then, entries_then}
 use Rattle.book.proofs.Ticking.{gives_setting, lawful_after}
 use Rattle.book.proofs.book.Book.tick.Goals as goal
@@ -29,7 +29,7 @@ returns c =
     let jobs : c.close_done.new.self ≡ filter has_work (jobs_then b.now (settings_of b 0) b.jobs) =
     c.close_done.ensures ∙ ap (filter has_work) (c.serve-count.ensures.jobs ∙ ap (λ u. jobs_then b.now u b.jobs) setting) in
     let es = entries_then b.now (settings_of b 0) b.jobs in
-    let list : c.serve-count.new.list ≡ with_entries es c.args.list.now = c.serve-count.ensures.list ∙ ap (λ u. with_entries (entries_then b.now u b.jobs) c.args.list.now) setting in
+    let list : c.serve-count.new.list ≡ list_with es c.args.list.now = c.serve-count.ensures.list ∙ ap (λ u. list_with (entries_then b.now u b.jobs) c.args.list.now) setting in
     let count : c.serve-count.result ≡ length es = c.serve-count.ensures.count ∙ ap (λ u. length (entries_then b.now u b.jobs)) setting in
     let enough : ltb (length c.args.list.now) 64 ≡ false = grind (arith, nat_tests) in
     let more : (b.now == last_tick) ≡ false = grind (arith, nat_tests) in

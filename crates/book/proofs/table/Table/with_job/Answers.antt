@@ -20,7 +20,7 @@ returns c =
     let found : c.position.result ≡ position (is_before c.args.job) old =
     position_from_yields_List (is_before c.args.job) _ _ c.position.result c.position.ensures.ran (YieldsList-from_slice c.jobs.result.now cc) (λ x b q k. search (rules, tests))
     ∙ ap (position (is_before c.args.job)) (c.jobs.ensures.jobs ∙ sym c.self.view_is) in
-    let place : c.unwrap_or-place.result ≡ position_or_len (is_before c.args.job) old =
-    c.unwrap_or-place.ensures ∙ ap (λ o. unwrap_or o n) found ∙ position-unwrap_or (is_before c.args.job) old n (sym held) in
-    rw (← c.self.view_is, c.copy_within.ensures.after, place)
+    let index : c.unwrap_or-index.result ≡ position_or_len (is_before c.args.job) old =
+    c.unwrap_or-index.ensures ∙ ap (λ o. unwrap_or o n) found ∙ position-unwrap_or (is_before c.args.job) old n (sym held) in
+    rw (← c.self.view_is, c.copy_within.ensures.after, index)
     (take_inserted c.self.inside.places n (position_or_len (is_before c.args.job) old) c.args.job (omega (arith, prefix_len-le-length (λ j. not (is_before c.args.job j)) old)) (omega (arith, ap length c.self.view_is)))

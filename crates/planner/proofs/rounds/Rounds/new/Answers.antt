@@ -1,6 +1,6 @@
 use Rattle.std.proofs.Common.{◌≡◌, ◌∙◌, true, take, replicate, sym, ap, subst, arith}
 use Rattle.std.proofs.lemmas.List.{take_all}
-use Rattle.planner.specs.Ticks.{free_in}
+use Rattle.planner.specs.Ticks.{is_free_in}
 use Rattle.planner.specs.Blocks.{open_demands, critical_blocks}
 use Rattle.planner.specs.Rounds.{blocks_to_come, AreLeft}
 use Rattle.planner.proofs.Starting.{first_left, first_blocks}
@@ -12,8 +12,8 @@ all_taken c = c.loop-demand.invariant.left ∙ ap open_demands (take_all _ _ c.l
 
 pub invariant_of-result : goal.invariant_of-result
 invariant_of-result c =
-    (omega (arith, c.loop-demand.invariant.behind, c.demands.invariant.few), subst (AreLeft (free_in (replicate 256 true))) (sym (all_taken c)) (first_left c.demands.inside.list.now c.demands.invariant))
+    (omega (arith, c.loop-demand.invariant.behind, c.demands.invariant.few), subst (AreLeft (is_free_in (replicate 256 true))) (sym (all_taken c)) (first_left c.demands.inside.list.now c.demands.invariant))
 
 pub returns-clause-blocks : goal.returns-clause-blocks
 returns-clause-blocks c =
-    ap (blocks_to_come (free_in (replicate 256 true))) (all_taken c) ∙ first_blocks c.demands.inside.list.now ∙ ap critical_blocks c.demands.view_is
+    ap (blocks_to_come (is_free_in (replicate 256 true))) (all_taken c) ∙ first_blocks c.demands.inside.list.now ∙ ap critical_blocks c.demands.view_is
