@@ -4,7 +4,7 @@ use Rattle.std.specs.List.{All}
 use Rattle.std.proofs.lemmas.List.Elements.{All-head, All-tail}
 use Rattle.schedule.specs.Demands.{Sound}
 use Rattle.schedule.specs.Compressed.{NonEmpty}
-use Rattle.book.specs.declared.job.Job.{Job}
+use Rattle.layout.specs.declared.job.Job.{Job}
 use Rattle.book.specs.Demands.{demands}
 use Rattle.book.specs.Book.{IsOpenAt}
 

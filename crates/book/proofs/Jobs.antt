@@ -7,7 +7,7 @@ use Rattle.std.proofs.lemmas.Bool.Decides.{nat_tests}
 use Rattle.std.specs.Option.{unwrap_or}
 use Rattle.std.proofs.lemmas.Bool.{cond_both}
 use Rattle.std.proofs.lemmas.List.Sums.{prefix_len-le-length}
-use Rattle.book.specs.declared.job.Job.{Job}
+use Rattle.layout.specs.declared.job.Job.{Job}
 use Rattle.std.proofs.lemmas.List.Quantifiers.{position-Some}
 use Rattle.std.proofs.lemmas.List.Folds.{list_any_at}
 use Rattle.book.specs.Jobs.{has_ticket, is_ticket_open, jobs_without}
@@ -42,16 +42,16 @@ not_open p [] none = refl
 not_open p (j ∷ js) none = let rest = not_open p js in grind (arith, nat_tests)
 
 -- all jobs have other tickets
-without_other : (t : ℕ) (js : List Job) → All (λ j. t ≢ j.ticket) js → jobs_without t js ≡ js
-without_other t [] all = refl
-without_other t (j ∷ js) all = let here = All-head (λ k. t ≢ k.ticket) j js all in let rest = without_other t js (All-tail (λ k. t ≢ k.ticket) j js all) in grind (arith, nat_tests)
+pub without_others : (t : ℕ) (js : List Job) → All (λ j. t ≢ j.ticket) js → jobs_without t js ≡ js
+without_others t [] all = refl
+without_others t (j ∷ js) all = let here = All-head (λ k. t ≢ k.ticket) j js all in let rest = without_others t js (All-tail (λ k. t ≢ k.ticket) j js all) in grind (arith, nat_tests)
 
 -- where tickets differ, the jobs without a ticket are those without the one that has it
 pub without_removes : (t i : ℕ) (js : List Job) (d : Job) → i < length js → has_ticket t (get_or js i d) ≡ true → AllPairs (λ j k. j.ticket ≢ k.ticket) js
     → remove js i ≡ jobs_without t js
 without_removes t i [] d lt has pairs = absurd (omega arith)
 without_removes t zero (j ∷ js) d lt has pairs =
-    let rest = without_other j.ticket js (AllPairs-head (λ j k. j.ticket ≢ k.ticket) j js pairs) in grind (arith, nat_tests)
+    let rest = without_others j.ticket js (AllPairs-head (λ j k. j.ticket ≢ k.ticket) j js pairs) in grind (arith, nat_tests)
 without_removes t (suc i) (j ∷ js) d lt has pairs =
     let apart = AllPairs-head (λ j k. j.ticket ≢ k.ticket) j js pairs i d (omega arith) in
     let rest = without_removes t i js d (omega arith) has (AllPairs-tail (λ j k. j.ticket ≢ k.ticket) j js pairs) in grind (arith, nat_tests)

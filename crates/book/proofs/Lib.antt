@@ -21,12 +21,5 @@ pub mod Ready
 pub mod Serving
 -- a tick leaves a lawful book
 pub mod Ticking
--- images: records of 24 bytes, and the book that they say
-pub mod Records
+-- the image of a book
 pub mod Images
-pub mod WrongRecords
--- load accepts the images of lawful books, and no others
-pub mod Loads
--- an image as it is written, and as it is read
-pub mod Saving
-pub mod ImageReading

@@ -12,14 +12,15 @@ use Rattle.schedule.specs.InForce.{horizon}
 use Rattle.schedule.specs.Overload.{FirstOverload, Searched}
 use Rattle.schedule.specs.Work.{work}
 use Rattle.schedule.proofs.Theory.{theory}
-use Rattle.book.specs.declared.job.Job.{Job}
+use Rattle.layout.specs.declared.job.Job.{Job}
 use Rattle.book.specs.declared.fault.BookFault.{BookFault}
 use Rattle.book.specs.declared.fault.BookFault.TheVariants.{Field, TicketOpen, Full}
 use Rattle.book.specs.declared.fault.BookField.{BookField}
 use Rattle.book.specs.Jobs.{is_before, has_ticket, is_ticket_open, jobs_with}
 use Rattle.book.specs.Demands.{demands}
 use Rattle.book.specs.Book.{View, IsOpenAt, IsInOrder, IsLawful}
-use Rattle.book.specs.Calls.{answer_of, field_fault, place_fault, early_fault, first_overload_of, overload_fault_at, book_with_job, outcome, offer_outcome}
+use Rattle.book.specs.Outcomes.{ok_unless}
+use Rattle.book.specs.Calls.{field_fault, place_fault, early_fault, first_overload_of, overload_fault_at, book_with_job, plain_outcome, offer_outcome}
 use Rattle.book.specs.Offers.{IsDoable, IsOverloadRefusal, NamesFirst, OnlyOverload}
 use Rattle.book.proofs.DemandFacts.{sound-demands}
 use Rattle.book.proofs.Jobs.{All-insert, AllPairs-insert}
@@ -85,7 +86,7 @@ admissible b j e =
     let places = none.1 in
     record { is_open_at = open_fields b.now j fields; closed = grind (arith, nat_tests); room = grind (arith, nat_tests) }
 
-pub no_fault : {A : Type 0} (o : Option A) → answer_of o ≡ Ok tt → o ≡ None
+pub no_fault : {A : Type 0} (o : Option A) → ok_unless o tt ≡ Ok tt → o ≡ None
 no_fault None e = refl
 no_fault (Some x) e = absurd (cc)
 
@@ -175,7 +176,7 @@ pub lawful-offer_outcome : (b : View) (j : Job) → IsLawful b → IsLawful (off
 lawful-offer_outcome b j lawful = go (early_fault b j) refl (first_overload_of (book_with_job b j)) refl
   where
     go : (o : Option BookFault) → early_fault b j ≡ o → (r : Option (ℕ × ℕ)) → first_overload_of (book_with_job b j) ≡ r
-        → IsLawful (outcome (option_or o (option_map (overload_fault_at (book_with_job b j)) r)) b (book_with_job b j)).book
+        → IsLawful (plain_outcome (option_or o (option_map (overload_fault_at (book_with_job b j)) r)) b (book_with_job b j)).book
     go (Some f) e r s = lawful
     go None e (Some xy) s = lawful
     go None e None s = counted_lawful b j lawful (admissible b j e) s
@@ -185,7 +186,7 @@ only_offered : (b : View) (j : Job) → IsLawful b → OnlyOverload b j (offer_o
 only_offered b j lawful = go (early_fault b j) refl (first_overload_of (book_with_job b j)) refl
   where
     go : (o : Option BookFault) → early_fault b j ≡ o → (r : Option (ℕ × ℕ)) → first_overload_of (book_with_job b j) ≡ r
-        → OnlyOverload b j (outcome (option_or o (option_map (overload_fault_at (book_with_job b j)) r)) b (book_with_job b j)).answer
+        → OnlyOverload b j (plain_outcome (option_or o (option_map (overload_fault_at (book_with_job b j)) r)) b (book_with_job b j)).answer
     go (Some f) e r s = record {
       accepted = (λ no. absurd (cc), λ can. absurd (cc));
       refused = (λ is. absurd (early_other b j f e is), λ cannot. absurd (cc));

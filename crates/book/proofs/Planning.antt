@@ -12,7 +12,7 @@ use Rattle.schedule.specs.InForce.{horizon, Same, InForce}
 use Rattle.schedule.proofs.SettledLaws.{settled_same}
 use Rattle.schedule.proofs.Theory.{theory}
 use Rattle.planner.specs.Plannable.{IsPlannable}
-use Rattle.book.specs.declared.job.Job.{Job}
+use Rattle.layout.specs.declared.job.Job.{Job}
 use Rattle.book.specs.Jobs.{is_before}
 use Rattle.book.specs.Demands.{demand, demands}
 use Rattle.book.specs.Book.{View, IsOpenAt, IsInOrder}

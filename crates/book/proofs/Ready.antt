@@ -13,7 +13,7 @@ use Rattle.queue.specs.declared.ready.ReadyJob.{ReadyJob}
 use Rattle.queue.specs.Elements.{is_ready_before}
 use Rattle.queue.specs.Slots.{Slots}
 use Rattle.queue.specs.Says.{TakeLeaves}
-use Rattle.book.specs.declared.job.Job.{Job}
+use Rattle.layout.specs.declared.job.Job.{Job}
 use Rattle.book.specs.Jobs.{is_before}
 use Rattle.book.specs.Ready.{ready_job, ready_jobs}
 

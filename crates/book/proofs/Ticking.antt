@@ -15,13 +15,13 @@ use Rattle.schedule.specs.InForce.{horizon}
 use Rattle.schedule.specs.Edf.{given, serve, later, next}
 use Rattle.schedule.specs.Theory.{Ticked}
 use Rattle.schedule.proofs.Theory.{theory}
-use Rattle.book.specs.declared.job.Job.{Job}
+use Rattle.layout.specs.declared.job.Job.{Job}
 use Rattle.book.specs.declared.tick.Entry.{Entry}
 use Rattle.book.specs.Jobs.{is_before}
 use Rattle.book.specs.Demands.{demand, demands}
 use Rattle.book.specs.Book.{View, IsOpenAt, IsLawful, last_tick}
 use Rattle.book.specs.Settings.{settings_of}
-use Rattle.book.specs.Ticks.{shares, job_after, entry_of, entries_of, has_work, shares_of, book_after_tick}
+use Rattle.book.specs.Ticks.{shares, worked_job, entry_of, entries_of, has_work, shares_of, book_after_tick}
 use Rattle.book.proofs.DemandFacts.{sound-demands}
 use Rattle.book.proofs.Jobs.{AllPairs-head, AllPairs-tail}
 use Rattle.book.proofs.Keeping.{work-filter}
@@ -38,18 +38,18 @@ demands-next now u (j ∷ js) =
     λ i. record { from = from i; to = to i; units = j.work - given u (demand now j) } ∷ rest i
 
 -- what holds of all jobs, and of all pairs of them, whatever work they have left
-all_kept : (P Q : Job → Type 0) → ((j : Job) (g : ℕ) → P j → Q (job_after (j, g))) → (now u : ℕ) (js : List Job) → All P js → All Q (jobs_then now u js)
+all_kept : (P Q : Job → Type 0) → ((j : Job) (g : ℕ) → P j → Q (worked_job (j, g))) → (now u : ℕ) (js : List Job) → All P js → All Q (jobs_then now u js)
 all_kept P Q keeps now u [] all = λ k d lt. absurd (omega arith)
 all_kept P Q keeps now u (j ∷ js) all =
     let g = given u (demand now j) in
-    All-cons Q (job_after (j, g)) (jobs_then now (u - g) js) (keeps j g (All-head P j js all)) (all_kept P Q keeps now (u - g) js (All-tail P j js all))
+    All-cons Q (worked_job (j, g)) (jobs_then now (u - g) js) (keeps j g (All-head P j js all)) (all_kept P Q keeps now (u - g) js (All-tail P j js all))
 
-pairs_kept : (R : Job → Job → Type 0) → ((j k : Job) (g h : ℕ) → R j k → R (job_after (j, g)) (job_after (k, h))) → (now u : ℕ) (js : List Job) → AllPairs R js → AllPairs R (jobs_then now u js)
+pairs_kept : (R : Job → Job → Type 0) → ((j k : Job) (g h : ℕ) → R j k → R (worked_job (j, g)) (worked_job (k, h))) → (now u : ℕ) (js : List Job) → AllPairs R js → AllPairs R (jobs_then now u js)
 pairs_kept R keeps now u [] pairs = λ a b d lt le. absurd (omega arith)
 pairs_kept R keeps now u (j ∷ js) pairs =
     let g = given u (demand now j) in
-    AllPairs-cons R (job_after (j, g)) (jobs_then now (u - g) js)
-    (all_kept (R j) (R (job_after (j, g))) (λ k h r. keeps j k g h r) now (u - g) js (AllPairs-head R j js pairs))
+    AllPairs-cons R (worked_job (j, g)) (jobs_then now (u - g) js)
+    (all_kept (R j) (R (worked_job (j, g))) (λ k h r. keeps j k g h r) now (u - g) js (AllPairs-head R j js pairs))
     (pairs_kept R keeps now (u - g) js (AllPairs-tail R j js pairs))
 
 -- what holds of all elements that pass a test
@@ -71,7 +71,7 @@ open_after now u (j ∷ js) all due =
     let g = given u (demand now j) in
     let h = All-head (IsOpenAt now) j js all in
     let done : j.deadline - now - 1 ≡ 0 → j.work - g ≡ 0 = All-head (λ (d : Demand). d.to ≡ 0 → d.units ≡ 0) (later g (demand now j)) (next (u - g) (demands now js)) due in
-    All-cons (λ j. has_work j ≡ true → IsOpenAt (now + 1) j) (job_after (j, g)) (jobs_then now (u - g) js)
+    All-cons (λ j. has_work j ≡ true → IsOpenAt (now + 1) j) (worked_job (j, g)) (jobs_then now (u - g) js)
     (λ works.
     let some : 0 < j.work - g = grind (arith, nat_tests) in
     record {
@@ -120,7 +120,7 @@ lawful_after b h more =
           h.well_formed.few,
           length-filter has_work js,
           count_by-le-length has_work js,
-          length-map (shares b.now u b.jobs) job_after,
+          length-map (shares b.now u b.jobs) worked_job,
           length-zip b.jobs (serve u (demands b.now b.jobs)),
         );
         tickets_differ = AllPairs-filter (λ j k. j.ticket ≢ k.ticket) has_work js (pairs_kept (λ j k. j.ticket ≢ k.ticket) (λ j k g h r. r) b.now u b.jobs h.well_formed.tickets_differ);

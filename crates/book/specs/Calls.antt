@@ -1,32 +1,22 @@
 -- What each call answers, and the book that it leaves. The checks run in ascending order of the refusals' numbers and fields.
-use Rattle.std.specs.Prelude.{ℕ, ◌+◌, ◌||◌, if◌then◌else◌, List, length, Some, None, Ok, Err, Option, Result, ◌==◌, nat_lt, nat_le}
+use Rattle.std.specs.Prelude.{ℕ, ◌+◌, ◌||◌, if◌then◌else◌, List, length, Some, None, Option, ◌==◌, nat_lt, nat_le}
 use Rattle.std.specs.Option.{option_map, option_or}
 use Rattle.schedule.specs.InForce.{horizon}
 use Rattle.schedule.specs.Overload.{first_overload}
 use Rattle.schedule.specs.Work.{work}
-use Rattle.book.specs.declared.job.Job.{Job}
+use Rattle.layout.specs.declared.job.Job.{Job}
 use Rattle.book.specs.declared.fault.BookFault.{BookFault}
 use Rattle.book.specs.declared.fault.BookFault.TheVariants.{Field, TicketOpen, Full, Overload, NotOpen}
 use Rattle.book.specs.declared.fault.BookField.{BookField}
 use Rattle.book.specs.declared.fault.BookField.TheVariants.{Ticket, Arrival, Deadline, Work, Start, Top}
 use Rattle.book.specs.Jobs.{is_ticket_open, jobs_with, jobs_without}
 use Rattle.book.specs.Demands.{demands}
+use Rattle.book.specs.Outcomes.{Outcome, accepted, outcome}
 use Rattle.book.specs.Book.{View, last_tick, empty_book, book_with_jobs}
 
--- what a call answers, and the book that it leaves
-pub record Outcome : Type 0 where
-  pub answer : Result (Unit {0}) BookFault
-  pub book : View
-
--- a call is refused with its fault, if there is one
-abbrev pub answer_of : {F : Type 0} → Option F → Result (Unit {0}) F
-answer_of None = Ok tt
-answer_of (Some fault) = Err fault
-
--- the outcome of a call: where it is refused, the book is as it was before
-abbrev pub outcome : Option BookFault → (before after : View) → Outcome
-outcome None before after = record { answer = Ok tt; book = after }
-outcome (Some fault) before after = record { answer = Err fault; book = before }
+-- the outcome of a call that brings no list and answers nothing but that it is done, where it leaves the book `after`
+abbrev pub plain_outcome : Option BookFault → (before after : View) → Outcome (Unit {0}) BookFault (Unit {0})
+plain_outcome fault before after = outcome fault before tt (accepted tt after tt)
 
 -- why a book is not opened
 abbrev pub open_fault : (start top : ℕ) → Option BookFault
@@ -35,16 +25,16 @@ open_fault start top =
     if top == 0 || nat_lt 255 top then Some (Field Top) else None
 
 -- open sets now and the top, and empties the book
-abbrev pub open_outcome : View → (start top : ℕ) → Outcome
-open_outcome b start top = outcome (open_fault start top) b (empty_book start top)
+abbrev pub open_outcome : View → (start top : ℕ) → Outcome (Unit {0}) BookFault (Unit {0})
+open_outcome b start top = plain_outcome (open_fault start top) b (empty_book start top)
 
 -- why a strike is refused
 abbrev pub strike_fault : View → ℕ → Option BookFault
 strike_fault b ticket = if is_ticket_open ticket b.jobs then None else Some (NotOpen ticket)
 
 -- a strike closes the open job with the ticket
-abbrev pub strike_outcome : View → ℕ → Outcome
-strike_outcome b ticket = outcome (strike_fault b ticket) b (book_with_jobs (jobs_without ticket b.jobs) b)
+abbrev pub strike_outcome : View → ℕ → Outcome (Unit {0}) BookFault (Unit {0})
+strike_outcome b ticket = plain_outcome (strike_fault b ticket) b (book_with_jobs (jobs_without ticket b.jobs) b)
 
 -- the first field of an offered job that has a value it can't have
 abbrev pub field_fault : ℕ → Job → Option BookField
@@ -85,5 +75,5 @@ abbrev pub offer_fault : View → Job → Option BookFault
 offer_fault b j = option_or (early_fault b j) (overload_fault (book_with_job b j))
 
 -- an offer adds the job to the open ones
-abbrev pub offer_outcome : View → Job → Outcome
-offer_outcome b j = outcome (offer_fault b j) b (book_with_job b j)
+abbrev pub offer_outcome : View → Job → Outcome (Unit {0}) BookFault (Unit {0})
+offer_outcome b j = plain_outcome (offer_fault b j) b (book_with_job b j)

@@ -1,7 +1,7 @@
 -- What jobs demand, seen from now.
 use Rattle.std.specs.Prelude.{ℕ, ◌-◌, List, map}
 use Rattle.schedule.specs.Demands.{Demand}
-use Rattle.book.specs.declared.job.Job.{Job}
+use Rattle.layout.specs.declared.job.Job.{Job}
 
 -- a job seen from now: of its window only the ticks from now on count
 abbrev pub demand : ℕ → Job → Demand

@@ -3,23 +3,24 @@ use Rattle.std.specs.Prelude.{ℕ, ◌+◌, ◌-◌, ◌*◌, ◌++◌, Bool, �
 use Rattle.std.specs.List.{range_with_len, flat_map, list_all}
 use Rattle.std.specs.Option.{option_map, option_or}
 use Rattle.layout.specs.BigEndian.{part}
-use Rattle.layout.specs.Layout.{ticket_of, arrival_of, deadline_of, work_of}
+use Rattle.layout.specs.Jobs.{job_in}
+use Rattle.layout.specs.Layout.{arrival_of, work_of}
 use Rattle.layout.specs.Writing.{record_bytes}
-use Rattle.book.specs.declared.job.Job.{Job}
+use Rattle.layout.specs.declared.job.Job.{Job}
 use Rattle.book.specs.declared.fault.BookFault.{BookFault}
 use Rattle.book.specs.declared.fault.BookFault.TheVariants.{Short, Image}
 use Rattle.book.specs.Jobs.{is_before, is_ticket_open}
 use Rattle.book.specs.Book.{View, last_tick}
-use Rattle.book.specs.Calls.{Outcome, answer_of, outcome, first_overload_of}
-use Rattle.book.specs.Settings.{Listing}
+use Rattle.book.specs.Outcomes.{Outcome, accepted, outcome}
+use Rattle.book.specs.Calls.{plain_outcome, first_overload_of}
 
 -- the record of now and the top: now stands where a job has its arrival (bytes 4 to 9), and the top where it has its work (16 and 17)
 abbrev pub clock_record : (now top : ℕ) → List ℕ
-clock_record now top = record_bytes 0x43 0 now 0 top (replicate 6 0)
+clock_record now top = record_bytes 0x43 (record { ticket = 0; arrival = now; deadline = 0; work = top }) (replicate 6 0)
 
 -- the record of an open job
 abbrev pub job_record : Job → List ℕ
-job_record j = record_bytes 0x4a j.ticket j.arrival j.deadline j.work (replicate 6 0)
+job_record j = record_bytes 0x4a j (replicate 6 0)
 
 -- a record that stands for no job
 abbrev pub blank_record : List ℕ
@@ -37,20 +38,13 @@ image b = flat_map (λ r. r) (image_records b)
 abbrev pub length_fault : List ℕ → Option BookFault
 length_fault list = if nat_lt (length list) 1560 then Some (Short 1560) else None
 
--- save writes the image into the first places of the list, or is refused and leaves it
-abbrev pub save_outcome : View → List ℕ → Listing
-save_outcome b list = record {
-  answer = answer_of (length_fault list);
-  list = if nat_lt (length list) 1560 then list else image b ++ drop 1560 list;
-}
+-- save writes the image into the first places of the list
+abbrev pub save_outcome : View → List ℕ → Outcome (Unit {0}) BookFault (List ℕ)
+save_outcome b list = outcome (length_fault list) b list (accepted tt b (image b ++ drop 1560 list))
 
 -- the record k of a list
 abbrev pub record_in : List ℕ → ℕ → List ℕ
 record_in list k = part (24 * k) 24 list
-
--- the job that a record says
-abbrev pub job_in : List ℕ → Job
-job_in r = record { ticket = ticket_of r; arrival = arrival_of r; deadline = deadline_of r; work = work_of r }
 
 -- the records after the first
 abbrev pub later_records : List ℕ → List (List ℕ)
@@ -109,5 +103,5 @@ abbrev pub load_fault : List ℕ → Option BookFault
 load_fault list = option_or (length_fault list) (option_map Image (option_or (first_wrong list) (overload_record (book_in list))))
 
 -- load makes the book that of an image
-abbrev pub load_outcome : View → List ℕ → Outcome
-load_outcome b list = outcome (load_fault list) b (book_in list)
+abbrev pub load_outcome : View → List ℕ → Outcome (Unit {0}) BookFault (Unit {0})
+load_outcome b list = plain_outcome (load_fault list) b (book_in list)

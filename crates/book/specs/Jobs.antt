@@ -1,7 +1,7 @@
 -- Jobs and lists of open jobs.
 use Rattle.std.specs.Prelude.{ℕ, Bool, ◌&&◌, ◌||◌, not, List, ◌==◌, nat_lt}
 use Rattle.std.specs.List.{list_any, filter, insert, position_or_len}
-use Rattle.book.specs.declared.job.Job.{Job}
+use Rattle.layout.specs.declared.job.Job.{Job}
 
 -- whether the first of two jobs is served before the second: it has the earlier deadline, or the same and the lesser ticket
 abbrev pub is_before : Job → Job → Bool

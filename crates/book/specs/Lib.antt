@@ -5,6 +5,8 @@ pub mod Book
 -- the faults by their numbers
 pub mod Refusals
 -- what the calls answer and leave
+pub mod Lists
+pub mod Outcomes
 pub mod Calls
 pub mod Offers
 pub mod Settings

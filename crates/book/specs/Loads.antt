@@ -1,26 +1,22 @@
 -- What save and load mean: load accepts the images of lawful books, and no others.
-use Rattle.std.specs.Prelude.{◌≡◌, ℕ, ◌+◌, ◌*◌, ◌^◌, ◌<◌, ◌↔◌, List, length, take, slice_index_or, Ok, Err, Result, All, IsOk}
+use Rattle.std.specs.Prelude.{◌≡◌, ℕ, ◌+◌, ◌*◌, ◌<◌, ◌↔◌, List, length, take, slice_index_or, Ok, Err, Result, All, IsOk}
 use Rattle.schedule.specs.InForce.{horizon}
 use Rattle.schedule.specs.Overload.{NoneOverloaded}
-use Rattle.book.specs.declared.job.Job.{Job}
+use Rattle.layout.specs.declared.job.Job.{Job}
+use Rattle.layout.specs.Jobs.{IsSized}
 use Rattle.book.specs.declared.fault.BookFault.{BookFault}
 use Rattle.book.specs.declared.fault.BookFault.TheVariants.{Image}
 use Rattle.book.specs.Demands.{demands}
 use Rattle.book.specs.Book.{View, IsWellFormed, IsLawful}
 use Rattle.book.specs.Images.{image, load_outcome}
 
--- a job whose ticket and work have the sizes of the code's fields
-pub record IsSizedJob (j : Job) : Type 0 where
-  pub ticket : j.ticket < 2 ^ 16
-  pub work : j.work < 2 ^ 16
-
 -- the job at the place, if there is one, has these sizes
 abbrev pub IsSizedAt : ℕ → List Job → Type 0
-IsSizedAt index jobs = (d : Job) → index < length jobs → IsSizedJob (slice_index_or jobs index d)
+IsSizedAt index jobs = (d : Job) → index < length jobs → IsSized (slice_index_or jobs index d)
 
 -- a book of such jobs
 abbrev pub AreSized : View → Type 0
-AreSized b = All IsSizedJob b.jobs
+AreSized b = All IsSized b.jobs
 
 -- the first bytes of the list are the image of the book
 abbrev pub Shows : List ℕ → View → Type 0

@@ -4,7 +4,7 @@ use Rattle.schedule.specs.InForce.{horizon}
 use Rattle.schedule.specs.Overload.{FirstOverload}
 use Rattle.schedule.specs.Sharing.{Does}
 use Rattle.schedule.specs.Work.{work}
-use Rattle.book.specs.declared.job.Job.{Job}
+use Rattle.layout.specs.declared.job.Job.{Job}
 use Rattle.book.specs.declared.fault.BookFault.{BookFault}
 use Rattle.book.specs.declared.fault.BookFault.TheVariants.{Overload}
 use Rattle.book.specs.Demands.{demands}

@@ -1,23 +1,26 @@
 -- What the call tick answers, the book that it leaves, and what its list holds afterwards.
-use Rattle.std.specs.Prelude.{◌≡◌, ℕ, ◌+◌, ◌-◌, ◌++◌, Bool, if◌then◌else◌, List, length, map, take, drop, sum_by, Some, None, Ok, Err, Option, Result, ◌==◌, nat_lt}
+use Rattle.std.specs.Prelude.{◌≡◌, ℕ, ◌+◌, Bool, if◌then◌else◌, List, length, map, take, sum_by, Some, None, Ok, Err, Option, Result, ◌==◌, nat_lt}
 use Rattle.std.specs.List.{filter, zip}
 use Rattle.schedule.specs.Edf.{serve}
-use Rattle.book.specs.declared.job.Job.{Job}
+use Rattle.layout.specs.declared.job.Job.{Job}
+use Rattle.layout.specs.Jobs.{job_after}
 use Rattle.book.specs.declared.fault.BookFault.{BookFault}
 use Rattle.book.specs.declared.fault.BookFault.TheVariants.{Short, LastTick}
 use Rattle.book.specs.declared.tick.Entry.{Entry}
 use Rattle.book.specs.declared.tick.Served.{Served}
 use Rattle.book.specs.Demands.{demands}
 use Rattle.book.specs.Book.{View, last_tick}
+use Rattle.book.specs.Lists.{list_with}
+use Rattle.book.specs.Outcomes.{Outcome, accepted, outcome}
 use Rattle.book.specs.Settings.{settings_of}
 
 -- each job with what it gets of u units at now, in the order of serving
 abbrev pub shares : ℕ → ℕ → List Job → List (Job × ℕ)
 shares now u jobs = zip jobs (serve u (demands now jobs))
 
--- a job with so many units less left
-abbrev pub job_after : (Job × ℕ) → Job
-job_after s = record { ticket = s.0.ticket; arrival = s.0.arrival; deadline = s.0.deadline; work = s.0.work - s.1 }
+-- a job after what it gets: so many units less are left
+abbrev pub worked_job : (Job × ℕ) → Job
+worked_job s = job_after s.0 s.1
 
 abbrev pub entry_of : (Job × ℕ) → Entry
 entry_of s = record { ticket = s.0.ticket; units = s.1 }
@@ -36,17 +39,7 @@ shares_of b = shares b.now (settings_of b 0) b.jobs
 
 -- the book one tick later: the jobs are worked on, and those with no work left close
 abbrev pub book_after_tick : View → View
-book_after_tick b = record { now = b.now + 1; top = b.top; jobs = filter has_work (map job_after (shares_of b)) }
-
--- the list with the entries in its first places
-abbrev pub list_with : List Entry → List Entry → List Entry
-list_with es list = es ++ drop (length es) list
-
--- what tick answers, the book that it leaves, and what its list holds afterwards
-pub record Ticking : Type 0 where
-  pub answer : Result Served BookFault
-  pub book : View
-  pub list : List Entry
+book_after_tick b = record { now = b.now + 1; top = b.top; jobs = filter has_work (map worked_job (shares_of b)) }
 
 -- why a tick is refused
 abbrev pub tick_fault : View → List Entry → Option BookFault
@@ -54,15 +47,12 @@ tick_fault b list =
     if nat_lt (length list) 64 then Some (Short 64) else
     if b.now == last_tick then Some (LastTick b.now) else None
 
--- a tick that is not refused serves the open jobs
-abbrev pub tick_outcome_by : Option BookFault → View → List Entry → Ticking
-tick_outcome_by (Some fault) b list = record { answer = Err fault; book = b; list = list }
-tick_outcome_by None b list =
+-- a tick serves the open jobs: it answers its setting and the count of entries, which stand in the first places of the list
+abbrev pub tick_outcome : View → List Entry → Outcome Served BookFault (List Entry)
+tick_outcome b list =
     let es = entries_of (shares_of b) in
-    record { answer = Ok (record { setting = settings_of b 0; count = length es }); book = book_after_tick b; list = list_with es list }
-
-abbrev pub tick_outcome : View → List Entry → Ticking
-tick_outcome b list = tick_outcome_by (tick_fault b list) b list
+    let served = record { setting = settings_of b 0; count = length es } in
+    outcome (tick_fault b list) b list (accepted served (book_after_tick b) (list_with es list))
 
 -- the units of the entries that a served tick wrote add up to its setting
 abbrev pub GivesSetting : Result Served BookFault → List Entry → Type 0

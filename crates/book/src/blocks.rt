@@ -10,12 +10,12 @@ use super::book::Book;
 use super::demands::demands_of;
 use super::fault::BookFault;
 use super::table::PLACES;
-use planner::{NO_DEMAND, critical_blocks};
+use planner::{NO_DEMAND, RelativeBlock, critical_blocks};
 
-/// A critical block: ticks with the same exact speed.
-#[derive(Clone, Copy, PartialEq, Eq, Debug)]
-pub struct Block {
-    /// The exact speed: the block's work, and its length in ticks.
+/// A critical block: ticks with one exact speed. Ticks of other blocks may lie between its first and its last.
+#[derive(Clone, Copy, PartialEq, Eq, Debug, Default)]
+pub struct CriticalBlock {
+    /// The exact speed: the block's work in units, and its length in ticks.
     pub speed: (u32, u16),
     /// The first tick.
     pub start: u64,
@@ -23,13 +23,13 @@ pub struct Block {
     pub end: u64,
 }
 
-impl Block {
+impl CriticalBlock {
     // A block of the planner, whose ticks count from now.
-    fn from_now(block: &planner::RelativeBlock, now: u64) -> Block
+    fn in_time(block: &RelativeBlock, now: u64) -> CriticalBlock
         requires { now ≤ last_tick }
         ensures { result ≡ block_in_time now block.now }
     {
-        Block {
+        CriticalBlock {
             speed: block.speed,
             start: now + u64::from(block.from),
             end: now + u64::from(block.to),
@@ -38,14 +38,14 @@ impl Block {
 }
 
 // Writes blocks of the planner into the first places of the list, and answers how many there are.
-fn write(blocks: &[planner::RelativeBlock], now: u64, list: &mut [Block]) -> usize
+fn write(blocks: &[RelativeBlock], now: u64, list: &mut [CriticalBlock]) -> usize
     requires in_time { now ≤ last_tick }
     requires room { length blocks.now ≤ length list.old }
     ensures list { list.new ≡ map (block_in_time now) blocks.now ++ drop (length blocks.now) list.old }
     ensures count { result ≡ length blocks.now }
 {
     for (index, block) in blocks.iter().enumerate() {
-        list[index] = Block::from_now(block, now);
+        list[index] = CriticalBlock::in_time(block, now);
     }
     blocks.len()
 }
@@ -53,8 +53,18 @@ fn write(blocks: &[planner::RelativeBlock], now: u64, list: &mut [Block]) -> usi
 impl Book {
     /// Writes the critical blocks into the first places of the list, in the order of the rounds, and answers how many there are.
     ///
-    /// Refuses a list of fewer than 64 places ([`BookFault::Short`]), and leaves it as it was.
-    pub fn blocks(&self, list: &mut [Block]) -> Result<usize, BookFault>
+    /// # Refusals
+    ///
+    /// The list is as it was then.
+    ///
+    /// - [`BookFault::Short`]: the list has fewer than 64 places.
+    ///
+    /// ```text
+    /// // One block, of 3 units in the ticks 0 and 1: CriticalBlock { speed: (3, 2), start: 0, end: 2 }.
+    /// let mut blocks = [CriticalBlock::default(); PLACES];
+    /// let count = book.blocks(&mut blocks)?;
+    /// ```
+    pub fn blocks(&self, list: &mut [CriticalBlock]) -> Result<usize, BookFault>
         ensures answer { result ≡ (blocks_outcome self.entry.now list.old).answer }
         ensures list { list.new ≡ (blocks_outcome self.entry.now list.old).list }
         ensures critical { OnOk result (Blocked horizon (demands self.entry.now.now self.entry.now.jobs)) }

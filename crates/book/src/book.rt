@@ -2,9 +2,10 @@
 ghost use Rattle.std.specs.Prelude.{◌≡◌};
 
 use super::fault::{BookFault, BookField};
-use super::job::{Job, LAST_TICK};
+use super::job::check_fields;
 use super::overload::overload_fault;
 use super::table::{PLACES, Table};
+use layout::{Job, LAST_TICK};
 use std::marker::Model;
 
 /// The book: now, the top and the open jobs.
@@ -30,7 +31,8 @@ impl Model for Book {
 
 impl Book {
     ghost use Rattle.book.specs.Book.{IsLawful, empty_book};
-    ghost use Rattle.book.specs.Calls.{answer_of, early_fault, open_outcome, strike_outcome, offer_outcome};
+    ghost use Rattle.book.specs.Outcomes.{ok_unless};
+    ghost use Rattle.book.specs.Calls.{early_fault, open_outcome, strike_outcome, offer_outcome};
     ghost use Rattle.book.specs.Offers.{OnlyOverload};
 
     /// An empty book, with now 0 and top 1.
@@ -66,9 +68,19 @@ impl Book {
         self.jobs.jobs()
     }
 
-    /// Sets now and the top, and empties the book.
+    /// Sets now to the start and the top, in units of work in a tick, and empties the book.
     ///
-    /// Refuses a start after the last tick, then a top that is not 1 to 255 ([`BookFault::Field`]).
+    /// # Refusals
+    ///
+    /// The book is as it was then.
+    ///
+    /// - [`BookFault::Field`]: of the start, where it is after the last tick, 2^48 - 1; then of the top, where it is not 1 to
+    ///   255.
+    ///
+    /// ```text
+    /// book.open(0, 4)?;
+    /// let answer = book.open(0, 256); // Err(BookFault::Field(BookField::Top))
+    /// ```
     pub fn open(&mut self, start: u64, top: u16) -> Result<(), BookFault>
         ensures answer { result ≡ (open_outcome self.old start top).answer }
         ensures after { self.new ≡ (open_outcome self.old start top).book }
@@ -87,7 +99,16 @@ impl Book {
 
     /// Closes the open job with the ticket.
     ///
-    /// Refuses a ticket that no open job has ([`BookFault::NotOpen`]).
+    /// # Refusals
+    ///
+    /// The book is as it was then.
+    ///
+    /// - [`BookFault::NotOpen`]: no open job has the ticket.
+    ///
+    /// ```text
+    /// book.strike(7)?;
+    /// let answer = book.strike(7); // Err(BookFault::NotOpen { ticket: 7 })
+    /// ```
     #[tactic(auto, using(crate::proofs::Striking::struck_missed, crate::proofs::Striking::struck_found))]
     pub fn strike(&mut self, ticket: u16) -> Result<(), BookFault>
         ensures answer { result ≡ (strike_outcome self.old ticket).answer }
@@ -102,10 +123,10 @@ impl Book {
 
     // Whether an offered job passes the checks that come before overload.
     fn check(&self, job: &Job) -> Result<(), BookFault>
-        ensures { result ≡ answer_of (early_fault self.now job.now) }
+        ensures { result ≡ ok_unless (early_fault self.now job.now) tt }
     {
-        job.check(self.tick).map_err(BookFault::Field)?;
-        if self.jobs.is_open(job.ticket) {
+        check_fields(job, self.tick).map_err(BookFault::Field)?;
+        if self.jobs.has_ticket(job.ticket) {
             return Err(BookFault::TicketOpen { ticket: job.ticket });
         }
         if self.jobs.is_full() {
@@ -114,15 +135,23 @@ impl Book {
         Ok(())
     }
 
-    /// Adds the job to the open ones.
+    /// Adds the job to the open ones, with its work as its work left.
     ///
-    /// Refuses, in this order:
+    /// # Refusals
     ///
-    /// - ticket 0; an arrival before now; a deadline that is not after the arrival, more than 256 ticks from now or after the last
-    ///   tick; work 0 ([`BookFault::Field`]);
-    /// - a ticket that is open ([`BookFault::TicketOpen`]);
-    /// - a 65th job ([`BookFault::Full`]);
-    /// - a job with which an interval is overloaded ([`BookFault::Overload`]), so that no settings up to the top could do all work.
+    /// In this order; the book is as it was then.
+    ///
+    /// - [`BookFault::Field`]: of the ticket, where it is 0; of the arrival, where it is before now; of the deadline, where it
+    ///   is not after the arrival, more than 256 ticks from now or after the last tick; of the work, where it is 0.
+    /// - [`BookFault::TicketOpen`]: an open job has the ticket.
+    /// - [`BookFault::Full`]: 64 jobs are open.
+    /// - [`BookFault::Overload`]: with the job an interval is overloaded, so that no settings up to the top could do all work.
+    ///
+    /// ```text
+    /// book.offer(Job { ticket: 7, arrival: 0, deadline: 2, work: 3 })?;
+    /// // With a top of 4: Err(BookFault::Overload { start: 0, end: 2, work: 9 })
+    /// let answer = book.offer(Job { ticket: 9, arrival: 0, deadline: 2, work: 6 });
+    /// ```
     pub fn offer(&mut self, job: Job) -> Result<(), BookFault>
         ensures answer { result ≡ (offer_outcome self.old job).answer }
         ensures after { self.new ≡ (offer_outcome self.old job).book }
@@ -135,5 +164,16 @@ impl Book {
         }
         self.jobs = jobs;
         Ok(())
+    }
+}
+
+/// An empty book, as [`Book::new`] makes it.
+impl Default for Book {
+    ghost use Rattle.book.specs.Book.{empty_book};
+
+    ghost is_default = { λ b. b ≡ empty_book 0 1 };
+
+    fn default() -> Book {
+        Book::new()
     }
 }

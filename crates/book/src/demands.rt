@@ -1,25 +1,22 @@
 // What the open jobs demand, seen from now.
 ghost use Rattle.std.specs.Prelude.{◌≡◌, ◌≤◌, length, All};
-ghost use Rattle.book.specs.Demands.{demands};
+ghost use Rattle.book.specs.Demands.{demand, demands};
 ghost use Rattle.book.specs.Book.{IsOpenAt, IsInOrder};
 
-use super::job::Job;
+use super::job::{end_from, start_from};
 use super::table::PLACES;
+use layout::Job;
 use planner::{Demand, Demands};
 
-impl Job {
-    ghost use Rattle.book.specs.Demands.{demand};
-
-    // What the job demands, seen from now.
-    fn demand(&self, now: u64) -> Demand
-        requires { IsOpenAt now self.now }
-        ensures { result ≡ demand now self.now }
-    {
-        Demand {
-            from: self.start(now) as u16,
-            to: self.end(now) as u16,
-            units: self.work,
-        }
+// What the job demands, seen from now.
+fn demand_of(job: &Job, now: u64) -> Demand
+    requires { IsOpenAt now job.now }
+    ensures { result ≡ demand now job.now }
+{
+    Demand {
+        from: start_from(job, now) as u16,
+        to: end_from(job, now) as u16,
+        units: job.work,
     }
 }
 
@@ -35,7 +32,7 @@ pub(super) fn demands_of<'a>(
     ensures { result ≡ demands now jobs.now }
 {
     for (index, job) in jobs.iter().enumerate() {
-        places[index] = job.demand(now);
+        places[index] = demand_of(job, now);
     }
     Demands {
         list: &places[..jobs.len()],

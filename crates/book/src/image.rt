@@ -1,14 +1,13 @@
 // The image of a book: a record of now and the top, then one for each place.
 ghost use Rattle.std.specs.Prelude.{◌≡◌, map, slice_index_or, OnOk};
+ghost use Rattle.layout.specs.Jobs.{IsSized};
 ghost use Rattle.book.specs.Images.{clock_record, job_record, blank_record};
-ghost use Rattle.book.specs.Loads.{IsSizedJob, IsSizedAt};
+ghost use Rattle.book.specs.Loads.{IsSizedAt};
 
 use super::book::Book;
 use super::fault::BookFault;
-use super::job::Job;
 use super::table::PLACES;
-use layout::RECORD_LEN;
-use record::Numbers;
+use layout::{Job, LABEL_LEN, RECORD_LEN};
 
 // How many records an image has.
 pub(super) const RECORDS: usize = 1 + PLACES;
@@ -20,48 +19,40 @@ pub const IMAGE_LEN: usize = RECORDS * RECORD_LEN;
 const CLOCK: u8 = 0x43;
 
 // The first byte of the record of an open job.
-const JOB: u8 = 0x4a;
+const OPEN_JOB: u8 = 0x4a;
 
 // The record of a place that no job takes.
 pub(super) const BLANK: [u8; RECORD_LEN] = [0; RECORD_LEN];
 
-// The record of now and the top.
+// The record of now and the top: now stands where a job has its arrival, and the top where it has its work.
 pub(super) fn clock_record(now: u64, top: u8) -> [u8; RECORD_LEN]
     ensures { result ≡ clock_record now top }
 {
-    let numbers = Numbers {
+    let numbers = Job {
         ticket: 0,
         arrival: now,
         deadline: 0,
         work: u16::from(top),
     };
-    numbers.lay_out(CLOCK, &[0; 6])
+    numbers.to_record(CLOCK, &[0; LABEL_LEN])
 }
 
-impl Job {
-    // The record of the open job.
-    pub(super) fn to_record(self) -> [u8; RECORD_LEN]
-        ensures bytes { result ≡ job_record self }
-        ensures sized { IsSizedJob self }
-    {
-        let numbers = Numbers {
-            ticket: self.ticket,
-            arrival: self.arrival,
-            deadline: self.deadline,
-            work: self.work,
-        };
-        numbers.lay_out(JOB, &[0; 6])
-    }
+// The record of the open job.
+pub(super) fn job_record(job: &Job) -> [u8; RECORD_LEN]
+    ensures bytes { result ≡ job_record job.now }
+    ensures sized { IsSized job.now }
+{
+    job.to_record(OPEN_JOB, &[0; LABEL_LEN])
 }
 
-// The record of the place among the open jobs.
+// The record for the index among the open jobs.
 fn record_at(jobs: &[Job], index: usize) -> [u8; RECORD_LEN]
     ensures bytes { result ≡ slice_index_or (map job_record jobs.now) index blank_record }
     ensures sized { IsSizedAt index jobs.now }
 {
     match jobs.get(index) {
         None => BLANK,
-        Some(job) => job.to_record(),
+        Some(job) => job_record(job),
     }
 }
 
@@ -69,9 +60,19 @@ impl Book {
     ghost use Rattle.book.specs.Images.{save_outcome};
     ghost use Rattle.book.specs.Loads.{LoadsBack};
 
-    /// Writes the image of the book into the first 1560 places of the list.
+    /// Writes the image of the book, 65 records of 24 bytes, into the first 1560 places of the list.
     ///
-    /// Refuses a list that has fewer ([`BookFault::Short`]), and leaves it as it was.
+    /// # Refusals
+    ///
+    /// The list is as it was then.
+    ///
+    /// - [`BookFault::Short`]: the list has fewer than 1560 places.
+    ///
+    /// ```text
+    /// let mut image = [0; IMAGE_LEN];
+    /// book.save(&mut image)?;
+    /// other.load(&image)?; // other is a book like this one now
+    /// ```
     pub fn save(&self, list: &mut [u8]) -> Result<(), BookFault>
         ensures answer { result ≡ (save_outcome self.entry.now list.old).answer }
         ensures list { list.new ≡ (save_outcome self.entry.now list.old).list }

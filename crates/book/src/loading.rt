@@ -1,25 +1,26 @@
 // The book that an image says, and which record of it is wrong.
 ghost use Rattle.std.specs.Prelude.{◌≡◌, ◌≤◌, Some, None, [], length, if◌then◌else◌, map, take_while};
 ghost use Rattle.std.specs.Option.{option_map};
+ghost use Rattle.layout.specs.Jobs.{job_in};
 ghost use Rattle.layout.specs.Layout.{arrival_of, work_of};
 ghost use Rattle.book.specs.Book.{last_tick};
-ghost use Rattle.book.specs.Images.{job_in, is_job_record, is_clock, is_next_job, first_wrong_later, load_fault, book_in};
-ghost use Rattle.book.specs.Reading.{leading_jobs, ok_unless};
+ghost use Rattle.book.specs.Images.{can_be_open, is_job_record, is_clock, is_next_job, first_wrong_later, load_fault, book_in};
+ghost use Rattle.book.specs.Outcomes.{ok_unless};
+ghost use Rattle.book.specs.Reading.{leading_jobs};
 
 use super::book::Book;
 use super::fault::BookFault;
-use super::image::{BLANK, IMAGE_LEN, RECORDS, clock_record};
-use super::job::{HORIZON, Job, LAST_TICK};
+use super::image::{BLANK, IMAGE_LEN, RECORDS, clock_record, job_record};
+use super::job::TICKS_AHEAD;
 use super::overload::overload_fault;
 use super::table::Table;
-use layout::RECORD_LEN;
-use record::Numbers;
+use layout::{Job, LAST_TICK, RECORD_LEN};
 
 // Now and the top, where the record is that of some.
 fn read_clock(bytes: &[u8; RECORD_LEN]) -> Option<(u64, u8)>
     ensures { result ≡ (if is_clock bytes.now then Some (arrival_of bytes.now, work_of bytes.now) else None) }
 {
-    let numbers = Numbers::of(bytes);
+    let numbers = Job::of_record(bytes);
     let now = numbers.arrival;
     let top = u8::try_from(numbers.work).ok()?;
     if top == 0 || *bytes != clock_record(now, top) {
@@ -28,35 +29,18 @@ fn read_clock(bytes: &[u8; RECORD_LEN]) -> Option<(u64, u8)>
     Some((now, top))
 }
 
-impl Job {
-    ghost use Rattle.book.specs.Images.{job_in, can_be_open};
-
-    // The job that the record says.
-    fn of_record(bytes: &[u8; RECORD_LEN]) -> Job
-        ensures { result ≡ job_in bytes.now }
-    {
-        let numbers = Numbers::of(bytes);
-        Job {
-            ticket: numbers.ticket,
-            arrival: numbers.arrival,
-            deadline: numbers.deadline,
-            work: numbers.work,
-        }
-    }
-
-    // Whether it can be open at now.
-    fn can_be_open(&self, now: u64) -> bool
-        requires { now ≤ last_tick }
-        ensures { result ≡ can_be_open now self.now }
-    {
-        self.ticket > 0
-            && self.work > 0
-            && now < self.deadline
-            && self.deadline <= now + HORIZON
-            && self.deadline <= LAST_TICK
-            && self.arrival < self.deadline
-            && self.deadline <= self.arrival + HORIZON
-    }
+// Whether the job can be open at now.
+fn can_be_open(job: &Job, now: u64) -> bool
+    requires { now ≤ last_tick }
+    ensures { result ≡ can_be_open now job.now }
+{
+    job.ticket > 0
+        && job.work > 0
+        && now < job.deadline
+        && job.deadline <= now + TICKS_AHEAD
+        && job.deadline <= LAST_TICK
+        && job.arrival < job.deadline
+        && job.deadline <= job.arrival + TICKS_AHEAD
 }
 
 // The job that the record says, where it can stand after those of the jobs.
@@ -65,10 +49,10 @@ fn next_job(jobs: &Table, now: u64, bytes: &[u8; RECORD_LEN]) -> Option<Job>
     ensures { result ≡ (if is_next_job now jobs.now bytes.now then Some (job_in bytes.now) else None) }
 {
     let job = Job::of_record(bytes);
-    if *bytes != job.to_record() || !job.can_be_open(now) {
+    if *bytes != job_record(&job) || !can_be_open(&job, now) {
         return None;
     }
-    if !jobs.all_before(&job) || jobs.is_open(job.ticket) {
+    if !jobs.all_before(&job) || jobs.has_ticket(job.ticket) {
         return None;
     }
     Some(job)
@@ -134,8 +118,20 @@ impl Book {
 
     /// Makes the book the one that the image in the first 1560 places of the list says.
     ///
-    /// Refuses a list of fewer places ([`BookFault::Short`]), then the first record that no image of a lawful book, overload allowed, has after those before
-    /// it, by its number from 0, and then an overloaded interval, as number 65 ([`BookFault::Image`]). A refused call leaves the book as it was.
+    /// # Refusals
+    ///
+    /// The book is as it was then.
+    ///
+    /// - [`BookFault::Short`]: the list has fewer than 1560 places.
+    /// - [`BookFault::Image`]: by its number from 0, the first record that cannot stand where it does: no book, overload
+    ///   allowed, saves an image that begins with the records up to and with this one. Or 65: every record can stand, but
+    ///   an interval is overloaded.
+    ///
+    /// ```text
+    /// let image = [0; IMAGE_LEN];
+    /// // Record 0 is that of no now and top: Err(BookFault::Image { number: 0 }).
+    /// let answer = book.load(&image);
+    /// ```
     pub fn load(&mut self, list: &[u8]) -> Result<(), BookFault>
         ensures answer { result ≡ (load_outcome self.old list.now).answer }
         ensures after { self.new ≡ (load_outcome self.old list.now).book }

@@ -8,8 +8,8 @@ ghost use Rattle.book.specs.Calls.{overload_fault};
 
 use super::demands::demands_of;
 use super::fault::BookFault;
-use super::job::Job;
 use super::table::PLACES;
+use layout::Job;
 use planner::{Demands, HORIZON, NO_DEMAND};
 
 // Whether a window starts at the tick.

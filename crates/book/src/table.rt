@@ -2,27 +2,22 @@
 ghost use Rattle.std.specs.Prelude.{◌≡◌, ◌<◌, ◌≤◌, [], ◌∷◌, ◌++◌, length, map, position, nat_le, All};
 ghost use Rattle.std.specs.List.{filter, list_all, remove};
 ghost use Rattle.book.specs.Jobs.{is_before, has_ticket, is_ticket_open, jobs_with};
+ghost use Rattle.book.specs.Lists.{list_with};
 ghost use Rattle.book.specs.Book.{IsOpenAt, IsInOrder};
-ghost use Rattle.book.specs.Ticks.{shares, job_after, has_work, entries_of, list_with};
+ghost use Rattle.book.specs.Ticks.{shares, worked_job, has_work, entries_of};
 
-use super::job::Job;
+use super::job::is_before;
 use super::tick::{Entry, serve};
+use layout::Job;
+use std::fmt;
 use std::marker::Model;
 
-/// How many jobs can be open, and so how many entries a tick can write.
-pub const PLACES: usize = 64;
-
-// What stands in a place that was never taken.
-const NO_JOB: Job = Job {
-    ticket: 0,
-    arrival: 0,
-    deadline: 0,
-    work: 0,
-};
+/// The places of a book: how many jobs can be open, and so how many entries a tick and how many blocks a question can write.
+pub const PLACES: usize = planner::MOST_DEMANDS;
 
 // The open jobs in the order of serving.
 // No comparison is derived: what stands in the other places plays no part.
-#[derive(Debug, Drop)]
+#[derive(Drop)]
 pub(super) struct Table {
     places: [Job; PLACES],
     // How many jobs are open: they stand in the first places, and what the others hold means nothing.
@@ -31,7 +26,7 @@ pub(super) struct Table {
 
 impl Model for Table {
     ghost use Rattle.std.specs.Prelude.{◌≤◌, List, take};
-    ghost use Rattle.book.specs.declared.job.Job.{Job};
+    ghost use Rattle.layout.specs.declared.job.Job.{Job};
 
     ghost Value = { List Job };
 
@@ -46,7 +41,7 @@ impl Table {
         ensures { result ≡ [] }
     {
         Table {
-            places: [NO_JOB; PLACES],
+            places: [Job::default(); PLACES],
             count: 0,
         }
     }
@@ -67,7 +62,7 @@ impl Table {
     }
 
     // Whether a job has the ticket.
-    pub(super) fn is_open(&self, ticket: u16) -> bool
+    pub(super) fn has_ticket(&self, ticket: u16) -> bool
         ensures { result ≡ is_ticket_open ticket self.now }
     {
         self.jobs().iter().any(|job| job.ticket == ticket)
@@ -77,10 +72,10 @@ impl Table {
     pub(super) fn all_before(&self, other: &Job) -> bool
         ensures { result ≡ list_all (λ job. is_before job other.now) self.now }
     {
-        self.jobs().iter().all(|job| job.is_before(other))
+        self.jobs().iter().all(|job| is_before(job, other))
     }
 
-    // The place of the job with the ticket.
+    // The index of the job with the ticket.
     pub(super) fn index_of(&self, ticket: u16) -> Option<usize>
         ensures { result ≡ position (has_ticket ticket) self.now }
     {
@@ -95,7 +90,7 @@ impl Table {
         let index = self
             .jobs()
             .iter()
-            .position(|other| job.is_before(other))
+            .position(|other| is_before(&job, other))
             .unwrap_or(self.count);
         let mut places = self.places;
         places.copy_within(index..self.count, index + 1);
@@ -115,7 +110,7 @@ impl Table {
         self.count += 1;
     }
 
-    // Removes the job at the place.
+    // Removes the job at the index.
     pub(super) fn remove(&mut self, index: usize)
         requires { index < length self.old }
         ensures { self.new ≡ remove self.old index }
@@ -129,7 +124,7 @@ impl Table {
         requires room { 64 ≤ length list.old }
         requires in_order { IsInOrder self.old }
         requires open { All (IsOpenAt now) self.old }
-        ensures jobs { self.new ≡ map job_after (shares now setting self.old) }
+        ensures jobs { self.new ≡ map worked_job (shares now setting self.old) }
         ensures list { list.new ≡ list_with (entries_of (shares now setting self.old)) list.old }
         ensures count { result ≡ length (entries_of (shares now setting self.old)) }
     {
@@ -149,5 +144,12 @@ impl Table {
             }
         }
         self.count = count;
+    }
+}
+
+// The open jobs, and not what stands in the other places.
+impl fmt::Debug for Table {
+    fn fmt<W: fmt::Write>(&self, f: &mut fmt::Formatter<W>) -> fmt::Result {
+        f.debug_list().entries(self.jobs()).finish()
     }
 }

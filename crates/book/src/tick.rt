@@ -1,48 +1,34 @@
 // One tick: the ready jobs are served by earliest deadline, then least ticket.
-ghost use Rattle.std.specs.Prelude.{◌≡◌, ◌≤◌, length, map, min, All};
+ghost use Rattle.std.specs.Prelude.{◌≡◌, ◌≤◌, length, map, All};
 ghost use Rattle.std.specs.List.Sorted.{IsPermutation};
 ghost use Rattle.queue.specs.Slots.{slots_of, elements_of};
 ghost use Rattle.book.specs.Book.{IsOpenAt, IsInOrder};
+ghost use Rattle.book.specs.Lists.{list_with};
 ghost use Rattle.book.specs.Ready.{ready_jobs};
-ghost use Rattle.book.specs.Ticks.{shares, job_after, entries_of, list_with, tick_outcome, GivesSetting};
+ghost use Rattle.book.specs.Ticks.{shares, worked_job, entries_of, tick_outcome, GivesSetting};
 
 use super::book::Book;
 use super::fault::BookFault;
-use super::job::{Job, LAST_TICK};
 use super::table::PLACES;
+use layout::{Job, LAST_TICK};
 use queue::{ReadyJob, ReadyQueue};
 
 /// What a tick gave to one job.
-#[derive(Clone, Copy, PartialEq, Eq, Debug)]
+#[derive(Clone, Copy, PartialEq, Eq, Debug, Default)]
 pub struct Entry {
+    /// The ticket of the job.
     pub ticket: u16,
+    /// The units of work that the tick did of it.
     pub units: u16,
 }
 
-/// What a tick answers: the setting that it served, and how many entries it wrote.
+/// What a tick answers.
 #[derive(Clone, Copy, PartialEq, Eq, Debug)]
 pub struct Served {
+    /// The setting of the tick, in units of work.
     pub setting: u8,
+    /// How many entries it wrote: one for each job that got units.
     pub count: usize,
-}
-
-// What stands in a slot of the queue that was never filled.
-const NO_READY_JOB: ReadyJob = ReadyJob {
-    deadline: 0,
-    ticket: 0,
-    index: 0,
-};
-
-impl Job {
-    // Does what is left of its work, or the units if they are less, and answers how many units that took.
-    fn serve(&mut self, units: u16) -> u16
-        ensures units { result ≡ min self.old.work units }
-        ensures after { self.new ≡ job_after (self.old, result) }
-    {
-        let done = self.work.min(units);
-        self.work -= done;
-        done
-    }
 }
 
 // The jobs whose windows have begun, in a queue in these slots.
@@ -70,11 +56,11 @@ pub(super) fn serve(jobs: &mut [Job], now: u64, setting: u8, list: &mut [Entry])
     requires room { 64 ≤ length list.old }
     requires in_order { IsInOrder jobs.old }
     requires open { All (IsOpenAt now) jobs.old }
-    ensures jobs { jobs.new ≡ map job_after (shares now setting jobs.old) }
+    ensures jobs { jobs.new ≡ map worked_job (shares now setting jobs.old) }
     ensures list { list.new ≡ list_with (entries_of (shares now setting jobs.old)) list.old }
     ensures count { result ≡ length (entries_of (shares now setting jobs.old)) }
 {
-    let mut slots = [NO_READY_JOB; PLACES];
+    let mut slots = [ReadyJob::default(); PLACES];
     let mut ready = ready_jobs(&mut slots, jobs, now);
     let mut left = u16::from(setting);
     let mut count = 0;
@@ -93,12 +79,22 @@ pub(super) fn serve(jobs: &mut [Job], now: u64, setting: u8, list: &mut [Entry])
 }
 
 impl Book {
-    /// Serves one tick: the first setting in force goes to the open jobs whose windows have begun, by earliest deadline, then least ticket. Jobs with
-    /// no work left close, and now rises by 1. Writes an entry into the list for each job that got units, in the order of serving; their units add up
-    /// to the setting.
+    /// Serves one tick: the first setting in force goes to the open jobs whose windows have begun, by earliest deadline, then
+    /// least ticket. Jobs with no work left close, and now rises by 1. Writes an entry into the list for each job that got
+    /// units, in the order of serving; their units add up to the setting.
     ///
-    /// Refuses a list of fewer than 64 places ([`BookFault::Short`]), then a tick at the last tick of all ([`BookFault::LastTick`]). Both leave the
-    /// list as it was.
+    /// # Refusals
+    ///
+    /// The book and the list are as they were then.
+    ///
+    /// - [`BookFault::Short`]: the list has fewer than 64 places.
+    /// - [`BookFault::LastTick`]: now is the last tick of all, 2^48 - 1.
+    ///
+    /// ```text
+    /// let mut entries = [Entry::default(); PLACES];
+    /// // Served { setting: 2, count: 1 }, and the first entry is Entry { ticket: 7, units: 2 }.
+    /// let served = book.tick(&mut entries)?;
+    /// ```
     pub fn tick(&mut self, list: &mut [Entry]) -> Result<Served, BookFault>
         ensures answer { result ≡ (tick_outcome self.old list.old).answer }
         ensures after { self.new ≡ (tick_outcome self.old list.old).book }

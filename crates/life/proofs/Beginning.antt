@@ -6,9 +6,9 @@ use Rattle.std.proofs.lemmas.Bool.Decides.{nat_tests}
 use Rattle.std.proofs.lemmas.List.Sorted.{IsPermutation-refl}
 use Rattle.book.specs.declared.fault.BookFault.{BookFault}
 use Rattle.book.specs.Book.{View, IsLawful, empty_book}
-use Rattle.book.specs.Calls.{open_fault, outcome, open_outcome}
+use Rattle.book.specs.Calls.{open_fault, plain_outcome, open_outcome}
 use Rattle.book.specs.Images.{book_in, load_outcome}
-use Rattle.book.proofs.Images.{lawful_loaded, loaded_book}
+use Rattle.book.proofs.Images.BookSaid.{lawful_loaded, loaded_book}
 use Rattle.life.specs.Tally.{tally_of_open, tally_of_load}
 use Rattle.life.specs.Life.{Beginning, opening, loading, beginning_outcome, tally_of}
 use Rattle.life.proofs.Rows.{loaded_open, loaded_newest, loaded_within}
@@ -33,7 +33,7 @@ lawful_empty start top none = record {
 opened_agrees : (b : View) (start top : ℕ) → (open_outcome b start top).answer ≡ Ok tt → Agrees (tally_of_open start top) (open_outcome b start top).book
 opened_agrees b start top = go (open_fault start top) refl
   where
-    go : (o : Option BookFault) → open_fault start top ≡ o → (outcome o b (empty_book start top)).answer ≡ Ok tt → Agrees (tally_of_open start top) (outcome o b (empty_book start top)).book
+    go : (o : Option BookFault) → open_fault start top ≡ o → (plain_outcome o b (empty_book start top)).answer ≡ Ok tt → Agrees (tally_of_open start top) (plain_outcome o b (empty_book start top)).book
     go None e ok = record {
       now = refl;
       top = refl;

@@ -8,18 +8,18 @@ use Rattle.std.proofs.lemmas.List.Elements.{All-nil, All-head, All-tail, All-con
 use Rattle.std.proofs.lemmas.List.Kept.{AllPairs-cons}
 use Rattle.std.proofs.lemmas.List.Sorted.{IsPermutation-map, Contains-permutation}
 use Rattle.schedule.specs.Edf.{given as edf_given}
-use Rattle.book.specs.declared.job.Job.{Job}
+use Rattle.layout.specs.declared.job.Job.{Job}
 use Rattle.book.specs.declared.tick.Entry.{Entry}
 use Rattle.book.specs.Jobs.{has_ticket}
 use Rattle.book.specs.Demands.{demand}
 use Rattle.book.specs.Book.{IsOpenAt}
-use Rattle.book.specs.Ticks.{shares, job_after, entry_of, entries_of, has_work}
+use Rattle.book.specs.Ticks.{shares, worked_job, entry_of, entries_of, has_work}
 use Rattle.book.proofs.Jobs.{AllPairs-head, AllPairs-tail}
 use Rattle.life.proofs.Reordering.{IsPermutation-filter}
 
 -- what an entry leaves of a job: units less, where it is for that job
 abbrev pub job_after : Entry → Job → Job
-job_after e j = if has_ticket e.ticket j then job_after (j, e.units) else j
+job_after e j = if has_ticket e.ticket j then worked_job (j, e.units) else j
 
 -- the open jobs after an entry, and after several
 abbrev pub jobs_after : Entry → List Job → List Job
@@ -74,22 +74,22 @@ jobs_other t ss others = All-map (λ j. j.ticket ≢ t) (λ (s : Job × ℕ). s.
 
 -- the first of the jobs after its entry
 first_after : (s : Job × ℕ) (js : List Job) → All (λ j. j.ticket ≢ s.0.ticket) js → All (λ j. has_work j ≡ true) js
-    → jobs_after (entry_of s) (s.0 ∷ js) ≡ cond (has_work (job_after s)) (job_after s ∷ js) js
+    → jobs_after (entry_of s) (s.0 ∷ js) ≡ cond (has_work (worked_job s)) (worked_job s ∷ js) js
 first_after s js others works = rw (eq-eqb s.0.ticket s.0.ticket refl, jobs_after_others (entry_of s) js others works)
 
 -- a share of nothing leaves the job
-share_none : (s : Job × ℕ) → s.1 ≡ 0 → job_after s ≡ s.0
+share_none : (s : Job × ℕ) → s.1 ≡ 0 → worked_job s ≡ s.0
 share_none s none = let e : s.0.work - s.1 ≡ s.0.work = omega arith in λ i. record { ticket = s.0.ticket; arrival = s.0.arrival; deadline = s.0.deadline; work = e i }
 
-first_idle : (s : Job × ℕ) (js : List Job) → s.1 ≡ 0 → has_work s.0 ≡ true → s.0 ∷ js ≡ cond (has_work (job_after s)) (job_after s ∷ js) js
+first_idle : (s : Job × ℕ) (js : List Job) → s.1 ≡ 0 → has_work s.0 ≡ true → s.0 ∷ js ≡ cond (has_work (worked_job s)) (worked_job s ∷ js) js
 first_idle s js none works =
     let same = share_none s none in
-    let still : has_work (job_after s) ≡ true = ap has_work same ∙ works in
+    let still : has_work (worked_job s) ≡ true = ap has_work same ∙ works in
     rw still (ap (λ j. j ∷ js) (sym same))
 
 -- the entries of shares leave of their jobs what the shares leave
 pub shares_after : (ss : List (Job × ℕ)) → AllPairs (λ s r. s.0.ticket ≢ r.0.ticket) ss → All (λ s. has_work s.0 ≡ true) ss
-    → jobs_after_all (entries_of ss) (jobs_of ss) ≡ filter has_work (map job_after ss)
+    → jobs_after_all (entries_of ss) (jobs_of ss) ≡ filter has_work (map worked_job ss)
 shares_after [] differ works = refl
 shares_after (s ∷ ss) differ works =
     let others = AllPairs-head (λ s r. s.0.ticket ≢ r.0.ticket) s ss differ in
@@ -97,8 +97,8 @@ shares_after (s ∷ ss) differ works =
     let works_behind = All-tail (λ s. has_work s.0 ≡ true) s ss works in
     let js = jobs_of ss in
     let rest = shares_after ss (AllPairs-tail (λ s r. s.0.ticket ≢ r.0.ticket) s ss differ) works_behind in
-    let whole : jobs_after_all (entries_of ss) (cond (has_work (job_after s)) (job_after s ∷ js) js) ≡ filter has_work (map job_after (s ∷ ss)) = elim (cases_Bool (has_work (job_after s))) [
-      | inl u ↦ rw u (jobs_after_all_behind (entries_of ss) (job_after s) js (entries_other s.0.ticket ss others) u ∙ ap (λ ks. job_after s ∷ ks) rest)
+    let whole : jobs_after_all (entries_of ss) (cond (has_work (worked_job s)) (worked_job s ∷ js) js) ≡ filter has_work (map worked_job (s ∷ ss)) = elim (cases_Bool (has_work (worked_job s))) [
+      | inl u ↦ rw u (jobs_after_all_behind (entries_of ss) (worked_job s) js (entries_other s.0.ticket ss others) u ∙ ap (λ ks. worked_job s ∷ ks) rest)
       | inr u ↦ rw u rest
     ] in
     elim (cases_Bool (nat_lt 0 s.1)) [

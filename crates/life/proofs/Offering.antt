@@ -8,12 +8,13 @@ use Rattle.std.proofs.lemmas.List.Sorted.{IsPermutation-sym, IsPermutation-trans
 use Rattle.schedule.specs.InForce.{horizon}
 use Rattle.schedule.specs.Sharing.{Does}
 use Rattle.schedule.specs.Work.{work}
-use Rattle.book.specs.declared.job.Job.{Job}
+use Rattle.layout.specs.declared.job.Job.{Job}
 use Rattle.book.specs.declared.fault.BookFault.{BookFault}
 use Rattle.book.specs.Jobs.{is_before, has_ticket, jobs_with}
 use Rattle.book.specs.Demands.{demands}
 use Rattle.book.specs.Book.{View, IsOpenAt}
-use Rattle.book.specs.Calls.{Outcome, early_fault, first_overload_of, overload_fault_at, book_with_job, outcome}
+use Rattle.book.specs.Outcomes.{Outcome}
+use Rattle.book.specs.Calls.{early_fault, first_overload_of, overload_fault_at, book_with_job, plain_outcome}
 use Rattle.book.specs.Offers.{IsDoable}
 use Rattle.book.proofs.Offering.{Admissible, admissible, counted_open, counted_lawful, counted_doable, counted_not_doable}
 use Rattle.life.specs.Events.{offer, done_answer, plain_event}
@@ -65,17 +66,17 @@ module _ (t : Tally) (b : View) (j : Job) (agrees : Agrees t b) where
       top = agrees.top;
       same = subst (λ js. IsPermutation js (jobs_with j b.jobs)) (sym (open_new j t.rows ok.is_open_at.work_left)) with_offered;
       newest = newest_new j t.rows (list_any-IsPermutation (has_ticket j.ticket) (open_jobs t.rows) b.jobs agrees.same ∙ ok.closed) agrees.newest;
-      within = All-cons (λ (r : Row). r.had ≤ r.work) (row_of j) t.rows (omega arith) agrees.within;
+      within = All-cons (λ (r : Row). r.had ≤ r.job.work) (row_of j) t.rows (omega arith) agrees.within;
       lawful = counted_lawful b j agrees.lawful ok none;
     }
 
   -- an answer that is as promised, and a book that agrees with the tally then
-  record Answered (o : Outcome) : Type 0 where
+  record Answered (o : Outcome (Unit {0}) BookFault (Unit {0})) : Type 0 where
     admits : Admits t j (done_answer o.answer)
     agrees_after : Agrees (tally_answered t (plain_event (offer j) (done_answer o.answer)) (done_answer o.answer)) o.book
 
   answered : (o : Option BookFault) → early_fault b j ≡ o → (r : Option (ℕ × ℕ)) → first_overload_of (book_with_job b j) ≡ r
-      → Answered (outcome (option_or o (option_map (overload_fault_at (book_with_job b j)) r)) b (book_with_job b j))
+      → Answered (plain_outcome (option_or o (option_map (overload_fault_at (book_with_job b j)) r)) b (book_with_job b j))
   answered (Some f) e r s = record { admits = λ none. absurd (let early = same_early in cc); agrees_after = agrees }
   answered None e (Some xy) s =
       let ok = admissible b j e in

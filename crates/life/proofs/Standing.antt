@@ -18,7 +18,7 @@ use Rattle.schedule.specs.InForce.{horizon, Same}
 use Rattle.schedule.proofs.SettledLaws.{settled_same}
 use Rattle.schedule.proofs.SumsLaws.{upto_same}
 use Rattle.schedule.proofs.Theory.{theory}
-use Rattle.book.specs.declared.job.Job.{Job}
+use Rattle.layout.specs.declared.job.Job.{Job}
 use Rattle.book.specs.Demands.{demand, demands}
 use Rattle.book.specs.Book.{View, IsOpenAt}
 use Rattle.book.specs.Settings.{settings_of, settings_outcome, list_with_settings}
@@ -34,16 +34,16 @@ rows_in_time now [] open_rows within = λ k d lt. absurd (omega arith)
 rows_in_time now (r ∷ rs) open_rows within = elim (cases_Bool (is_row_open r)) [
   | inl t ↦
       let later : All (λ j. now < j.deadline) (job_of_row r ∷ open_jobs rs) = rw t at open_rows in
-      let here : now < r.deadline = All-head (λ j. now < j.deadline) (job_of_row r) (open_jobs rs) later in
+      let here : now < r.job.deadline = All-head (λ j. now < j.deadline) (job_of_row r) (open_jobs rs) later in
       All-cons (InTime now) r rs
-      (record { no_more = All-head (λ r. r.had ≤ r.work) r rs within; all_had = λ alive due. absurd (omega arith) })
-      (rows_in_time now rs (All-tail (λ j. now < j.deadline) (job_of_row r) (open_jobs rs) later) (All-tail (λ r. r.had ≤ r.work) r rs within))
+      (record { no_more = All-head (λ r. r.had ≤ r.job.work) r rs within; all_had = λ alive due. absurd (omega arith) })
+      (rows_in_time now rs (All-tail (λ j. now < j.deadline) (job_of_row r) (open_jobs rs) later) (All-tail (λ r. r.had ≤ r.job.work) r rs within))
   | inr t ↦
       let later : All (λ j. now < j.deadline) (open_jobs rs) = rw t at open_rows in
-      let no_more : r.had ≤ r.work = All-head (λ r. r.had ≤ r.work) r rs within in
+      let no_more : r.had ≤ r.job.work = All-head (λ r. r.had ≤ r.job.work) r rs within in
       All-cons (InTime now) r rs
       (record { no_more = no_more; all_had = λ alive due. grind (arith, nat_tests) })
-      (rows_in_time now rs later (All-tail (λ r. r.had ≤ r.work) r rs within))
+      (rows_in_time now rs later (All-tail (λ r. r.had ≤ r.job.work) r rs within))
 ]
 
 -- the work of an interval is a sum over the jobs, in which their order counts for nothing

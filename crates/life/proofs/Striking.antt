@@ -1,12 +1,12 @@
 -- A strike keeps its promise, and leaves a tally and a book that agree.
 use Rattle.std.proofs.Common.{ℕ, not, Option, Some, None, sym, subst}
 use Rattle.std.specs.List.Sorted.{IsPermutation}
-use Rattle.book.specs.declared.job.Job.{Job}
+use Rattle.layout.specs.declared.job.Job.{Job}
 use Rattle.book.specs.declared.fault.BookFault.{BookFault}
 use Rattle.book.specs.Jobs.{has_ticket, jobs_without}
 use Rattle.book.specs.Book.{View, book_with_jobs}
-use Rattle.book.specs.Calls.{strike_fault, outcome}
-use Rattle.book.proofs.Keeping.{lawful-without}
+use Rattle.book.specs.Calls.{strike_fault, plain_outcome}
+use Rattle.book.proofs.Keeping.{lawful-jobs_without}
 use Rattle.life.specs.Events.{strike, done_answer, plain_event}
 use Rattle.life.specs.Tally.{Tally, open_jobs, rows_with_last, row_struck, tally_answered}
 use Rattle.life.proofs.Rows.{struck_open, struck_newest, struck_within}
@@ -26,7 +26,7 @@ module _ (t : Tally) (b : View) (k : ℕ) (agrees : Agrees t b) where
   }
 
   -- or after a refused one
-  agrees_after : (o : Option BookFault) → let x = outcome o b (book_with_jobs (jobs_without k b.jobs) b) in Agrees (tally_answered t (plain_event (strike k) (done_answer x.answer)) (done_answer x.answer)) x.book
+  agrees_after : (o : Option BookFault) → let x = plain_outcome o b (book_with_jobs (jobs_without k b.jobs) b) in Agrees (tally_answered t (plain_event (strike k) (done_answer x.answer)) (done_answer x.answer)) x.book
   agrees_after None = agrees_struck
   agrees_after (Some f) = agrees
 

@@ -7,8 +7,10 @@ use Rattle.book.specs.declared.fault.BookFault.{BookFault}
 use Rattle.book.specs.declared.tick.Entry.{Entry}
 use Rattle.book.specs.Book.{View, last_tick}
 use Rattle.book.specs.Settings.{settings_of}
-use Rattle.book.specs.Ticks.{Ticking, entries_of, shares_of, book_after_tick, tick_fault, tick_outcome_by}
-use Rattle.book.specs.Ticks as ticks
+use Rattle.book.specs.declared.tick.Served.{Served}
+use Rattle.book.specs.Lists.{list_with}
+use Rattle.book.specs.Outcomes.{Outcome, accepted, outcome}
+use Rattle.book.specs.Ticks.{entries_of, shares_of, book_after_tick, tick_fault}
 use Rattle.book.proofs.Ticking.{gives_setting, lawful_after}
 use Rattle.life.specs.Events.{tick, served_answer, entries_written}
 use Rattle.life.specs.Tally.{Tally, rows_after_entries, tally_answered}
@@ -30,7 +32,7 @@ module _ (t : Tally) (b : View) (list : List Entry) (agrees : Agrees t b) where
   the_fed = fed t b agrees.lawful agrees.now agrees.same agrees.newest agrees.within
 
   -- they stand in the first places of the list
-  first_places : take (length es) (ticks.with_entries es list) ≡ es
+  first_places : take (length es) (list_with es list) ≡ es
   first_places = take_at es (drop (length es) list) (length es) refl
 
   serves : ServesTick t b (record { setting = settings_of b 0; count = length es }) es
@@ -53,11 +55,12 @@ module _ (t : Tally) (b : View) (list : List Entry) (agrees : Agrees t b) where
   }
 
   -- an answer that is as promised, and a book that agrees with the tally then
-  record Answered (x : Ticking) : Type 0 where
+  record Answered (x : Outcome Served BookFault (List Entry)) : Type 0 where
     serving : TickAnswer t b (served_answer x.answer) (entries_written (served_answer x.answer) x.list)
     agrees_after : Agrees (tally_answered t (record { call = tick list; answer = served_answer x.answer; entries = entries_written (served_answer x.answer) x.list }) (served_answer x.answer)) x.book
 
-  answered : (o : Option BookFault) → tick_fault b list ≡ o → Answered (tick_outcome_by o b list)
+  answered : (o : Option BookFault) → tick_fault b list ≡ o
+      → Answered (outcome o b list (accepted (record { setting = settings_of b 0; count = length es }) (book_after_tick b) (list_with es list)))
   answered (Some f) e = record { serving = tt; agrees_after = agrees }
   answered None e = record {
     serving = subst (ServesTick t b (record { setting = settings_of b 0; count = length es })) (sym first_places) serves;

@@ -1,7 +1,7 @@
 -- The calls that a life is made of, and what they answer.
 use Rattle.std.specs.Prelude.{ℕ, List, [], take, Ok, Err, Result}
-use Rattle.book.specs.declared.job.Job.{Job}
-use Rattle.book.specs.declared.blocks.Block.{Block}
+use Rattle.layout.specs.declared.job.Job.{Job}
+use Rattle.book.specs.declared.blocks.CriticalBlock.{CriticalBlock}
 use Rattle.book.specs.declared.fault.BookFault.{BookFault}
 use Rattle.book.specs.declared.tick.Entry.{Entry}
 use Rattle.book.specs.declared.tick.Served.{Served}
@@ -19,7 +19,7 @@ pub data Call : Type 0 where
   strike : (ticket : ℕ) → Call
   tick : (list : List Entry) → Call
   settings : (list : List ℕ) → Call
-  blocks : (list : List Block) → Call
+  blocks : (list : List CriticalBlock) → Call
   bill : (draws : ℕ → ℕ) → Call
   save : (list : List ℕ) → Call
 

@@ -1,7 +1,9 @@
 -- Lives of a book.
 use Rattle.std.specs.Prelude.{◌≡◌, ℕ, List, [], ◌∷◌, ◌++◌, Ok}
 use Rattle.book.specs.Book.{View}
-use Rattle.book.specs.Calls.{Outcome, open_outcome}
+use Rattle.book.specs.declared.fault.BookFault.{BookFault}
+use Rattle.book.specs.Outcomes.{Outcome}
+use Rattle.book.specs.Calls.{open_outcome}
 use Rattle.book.specs.Images.{load_outcome}
 use Rattle.life.specs.Events.{Event, event_on, book_after}
 use Rattle.life.specs.Tally.{Tally, tally_of_open, tally_of_load}
@@ -12,7 +14,7 @@ pub data Beginning : Type 0 where
   loading : (list : List ℕ) → Beginning
 
 -- what the beginning answers, and the book that it leaves, where b was there before
-abbrev pub beginning_outcome : View → Beginning → Outcome
+abbrev pub beginning_outcome : View → Beginning → Outcome (Unit {0}) BookFault (Unit {0})
 beginning_outcome b (opening start top) = open_outcome b start top
 beginning_outcome b (loading list) = load_outcome b list
 

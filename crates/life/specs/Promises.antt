@@ -5,7 +5,7 @@ use Rattle.schedule.specs.Sharing.{Does}
 use Rattle.schedule.specs.Draws.{drawn}
 use Rattle.schedule.specs.InForce.{horizon}
 use Rattle.schedule.specs.Certificate.{listed}
-use Rattle.book.specs.declared.job.Job.{Job}
+use Rattle.layout.specs.declared.job.Job.{Job}
 use Rattle.book.specs.declared.fault.BookFault.TheVariants.{Overload}
 use Rattle.book.specs.declared.tick.Entry.{Entry}
 use Rattle.book.specs.declared.tick.Served.{Served}
@@ -23,8 +23,8 @@ written_settings b = listed (settings_outcome b (replicate horizon 0)).list
 
 -- a row has had no more than its work, and all of it once its deadline is reached, unless it was struck
 pub record InTime (now : ℕ) (r : Row) : Type 0 where
-  pub no_more : r.had ≤ r.work
-  pub all_had : r.struck ≡ false → r.deadline ≤ now → r.had ≡ r.work
+  pub no_more : r.had ≤ r.job.work
+  pub all_had : r.struck ≡ false → r.job.deadline ≤ now → r.had ≡ r.job.work
 
 -- settings that do the open work in its windows, up to the top, and no other such settings draw less, under any draws that keep the laws of power models
 pub record Cheapest (t : Tally) (s : ℕ → ℕ) : Type 0 where
@@ -42,8 +42,8 @@ pub record GoesToOpen (t : Tally) (e : Entry) : Type 0 where
   pub row : Row
   pub last : last_row e.ticket t.rows ≡ Some row
   pub still_open : is_row_open row ≡ true
-  pub begun : row.arrival ≤ t.now
-  pub not_over : t.now < row.deadline
+  pub begun : row.job.arrival ≤ t.now
+  pub not_over : t.now < row.job.deadline
 
 -- an accepted tick answers the first setting in force before it, its entries add up to that, and each goes to an open row
 pub record ServesTick (t : Tally) (b : View) (s : Served) (es : List Entry) : Type 0 where

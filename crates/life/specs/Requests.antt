@@ -1,42 +1,34 @@
 -- What the requests of a console answer and leave, and the events that they are.
 use Rattle.std.specs.Prelude.{List, Ok, Err, Result}
+use Rattle.std.specs.Result.{result_map_both}
+use Rattle.layout.specs.Content.{Content, offer as offer_record, strike as strike_record, tick as tick_record}
 use Rattle.book.specs.declared.fault.BookFault.{BookFault}
 use Rattle.book.specs.declared.tick.Entry.{Entry}
-use Rattle.book.specs.declared.tick.Served.{Served as TickServed}
 use Rattle.book.specs.Book.{View}
-use Rattle.book.specs.Calls.{Outcome, offer_outcome, strike_outcome}
-use Rattle.book.specs.Ticks.{Ticking, tick_outcome}
+use Rattle.book.specs.Outcomes.{Outcome}
+use Rattle.book.specs.Calls.{offer_outcome, strike_outcome}
+use Rattle.book.specs.Ticks.{tick_outcome}
 use Rattle.life.specs.declared.Request.{Request}
 use Rattle.life.specs.declared.Request.TheVariants.{Offer, Strike, Tick}
 use Rattle.life.specs.declared.Response.{Response}
-use Rattle.life.specs.declared.Response.TheVariants.{Done, Served}
+use Rattle.life.specs.declared.Response.TheVariants.{Offered, Struck, Served}
 use Rattle.life.specs.Events.{Call, offer, strike, tick, Answer, done, served, refused, entries_written, Event}
 
--- what a request answers, the book that it leaves, and what its list holds afterwards
-pub record Handling : Type 0 where
-  pub answer : Result Response BookFault
-  pub book : View
-  pub list : List Entry
+-- what a record asks of a book
+abbrev pub request_of : Content → Request
+request_of (offer_record j label) = Offer j
+request_of (strike_record t) = Strike t
+request_of tick_record = Tick
 
-abbrev pub done_by : Result (Unit {0}) BookFault → Result Response BookFault
-done_by (Ok u) = Ok Done
-done_by (Err fault) = Err fault
-
-abbrev pub served_by : Result TickServed BookFault → Result Response BookFault
-served_by (Ok s) = Ok (Served s)
-served_by (Err fault) = Err fault
-
-abbrev pub by_outcome : Outcome → List Entry → Handling
-by_outcome o list = record { answer = done_by o.answer; book = o.book; list = list }
-
-abbrev pub by_tick : Ticking → Handling
-by_tick t = record { answer = served_by t.answer; book = t.book; list = t.list }
+-- the outcome of a call of the book as that of a request: its answer told as a response, and the list
+abbrev pub outcome_told : {A L : Type 0} → (A → Response) → List Entry → Outcome A BookFault L → Outcome Response BookFault (List Entry)
+outcome_told response list o = record { answer = result_map_both response (λ fault. fault) o.answer; book = o.book; list = list }
 
 -- an offer, a strike or a tick
-abbrev pub request_outcome : View → Request → List Entry → Handling
-request_outcome b (Offer j) list = by_outcome (offer_outcome b j) list
-request_outcome b (Strike t) list = by_outcome (strike_outcome b t) list
-request_outcome b Tick list = by_tick (tick_outcome b list)
+abbrev pub request_outcome : View → Request → List Entry → Outcome Response BookFault (List Entry)
+request_outcome b (Offer j) list = outcome_told (λ u. Offered j.ticket) list (offer_outcome b j)
+request_outcome b (Strike t) list = outcome_told (λ u. Struck t) list (strike_outcome b t)
+request_outcome b Tick list = let o = tick_outcome b list in outcome_told Served o.list o
 
 -- the call of a request that brings the list
 abbrev pub call_of : Request → List Entry → Call
@@ -44,11 +36,15 @@ call_of (Offer j) list = offer j
 call_of (Strike t) list = strike t
 call_of Tick list = tick list
 
+-- the answer to a request as that of a life
 abbrev pub request_answer : Result Response BookFault → Answer
-request_answer (Ok Done) = done
+request_answer (Ok (Offered t)) = done
+request_answer (Ok (Struck t)) = done
 request_answer (Ok (Served s)) = served s
 request_answer (Err fault) = refused fault
 
 -- the event that a request with the list was, which answered so and left the list like this
 abbrev pub event_of : Request → (before : List Entry) → Result Response BookFault → (after : List Entry) → Event
-event_of request before answer after = record { call = call_of request before; answer = request_answer answer; entries = entries_written (request_answer answer) after }
+event_of request before answer after =
+    let told = request_answer answer in
+    record { call = call_of request before; answer = told; entries = entries_written told after }

@@ -1,19 +1,18 @@
--- The tally of a life. It is fed the calls in their order, with their arguments, answers and written entries, and nothing else.
-use Rattle.std.specs.Prelude.{ℕ, ◌+◌, ◌-◌, Bool, true, false, not, ◌&&◌, if◌then◌else◌, List, [], ◌∷◌, map, filter, find, Option, ◌==◌, nat_lt}
+-- The tally of a life. It sees each call with its arguments, its answer and the entries that it wrote, one after the other, and nothing else.
+use Rattle.std.specs.Prelude.{ℕ, ◌+◌, Bool, true, false, not, ◌&&◌, if◌then◌else◌, List, [], ◌∷◌, map, filter, find, Option, nat_lt}
 use Rattle.schedule.specs.Demands.{Demand}
-use Rattle.book.specs.declared.job.Job.{Job}
+use Rattle.layout.specs.declared.job.Job.{Job}
+use Rattle.layout.specs.Jobs.{job_after}
 use Rattle.book.specs.declared.tick.Entry.{Entry}
+use Rattle.book.specs.Jobs.{has_ticket}
 use Rattle.book.specs.Demands.{demands}
 use Rattle.book.specs.Book.{View}
 use Rattle.book.specs.Images.{book_in}
 use Rattle.life.specs.Events.{Call, offer, strike, tick, settings, blocks, bill, save, Answer, done, served, number, refused, Event}
 
--- an accepted offer, or a job of a loaded image: what was asked for, the units that it has had, and whether it was struck
+-- an accepted offer, or a job of a loaded image: the job as it came, the units that it has had, and whether it was struck
 pub record Row : Type 0 where
-  pub ticket : ℕ
-  pub arrival : ℕ
-  pub deadline : ℕ
-  pub work : ℕ
+  pub job : Job
   pub had : ℕ
   pub struck : Bool
 
@@ -23,13 +22,13 @@ pub record Tally : Type 0 where
   pub top : ℕ
   pub rows : List Row
 
--- a row is open while it is not struck and short of its work
+-- a row is open until it is struck or has had all its work
 abbrev pub is_row_open : Row → Bool
-is_row_open r = not r.struck && nat_lt r.had r.work
+is_row_open r = not r.struck && nat_lt r.had r.job.work
 
--- what it lacks is its work left
+-- the job of a row, with what it still lacks as its work left
 abbrev pub job_of_row : Row → Job
-job_of_row r = record { ticket = r.ticket; arrival = r.arrival; deadline = r.deadline; work = r.work - r.had }
+job_of_row r = job_after r.job r.had
 
 abbrev pub open_jobs : List Row → List Job
 open_jobs rows = map job_of_row (filter is_row_open rows)
@@ -44,7 +43,7 @@ backlog t = demands t.now (open_jobs t.rows)
 
 -- whether a row has the ticket
 abbrev pub row_has_ticket : ℕ → Row → Bool
-row_has_ticket k r = r.ticket == k
+row_has_ticket k r = has_ticket k r.job
 
 -- the last row with a ticket
 abbrev pub last_row : ℕ → List Row → Option Row
@@ -57,13 +56,15 @@ rows_with_last k change (r ∷ rs) = if row_has_ticket k r then change r ∷ rs 
 
 -- a new row
 abbrev pub row_of : Job → Row
-row_of j = record { ticket = j.ticket; arrival = j.arrival; deadline = j.deadline; work = j.work; had = 0; struck = false }
+row_of j = record { job = j; had = 0; struck = false }
 
+-- the row marked as struck
 abbrev pub row_struck : Row → Row
-row_struck r = record { ticket = r.ticket; arrival = r.arrival; deadline = r.deadline; work = r.work; had = r.had; struck = true }
+row_struck r = record { job = r.job; had = r.had; struck = true }
 
+-- the row after so many units more
 abbrev pub row_given : ℕ → Row → Row
-row_given units r = record { ticket = r.ticket; arrival = r.arrival; deadline = r.deadline; work = r.work; had = r.had + units; struck = r.struck }
+row_given units r = record { job = r.job; had = r.had + units; struck = r.struck }
 
 -- the units of the entries go to the last rows with their tickets
 abbrev pub rows_after_entries : List Entry → List Row → List Row

@@ -1,14 +1,15 @@
 //! The life of a book: the requests that a console makes of it, and what is promised of every life.
 //!
-//! A life begins with an accepted open or load. Then come any calls of offer, strike, tick and the questions. What the calls ask, answer and write is
-//! tallied, and nothing else; the promises are made of that tally. [`handle`] keeps them, for whatever life the book has had.
+//! A life begins with an accepted open or load. Then come any calls of offer, strike, tick and the questions. A tally is kept of
+//! what the calls ask, answer and write, and of nothing else; the promises are made of that tally. [`handle`] keeps them, for
+//! whatever life the book has had.
 //!
 //! ```text
 //! let mut book = Book::new();
 //! book.open(0, 4)?;
-//! let mut list = [Entry { ticket: 0, units: 0 }; 64];
+//! let mut list = [Entry::default(); PLACES];
 //! let job = Job { ticket: 7, arrival: 0, deadline: 2, work: 3 };
-//! handle(&mut book, &Request::Offer(job), &mut list)?; // Response::Done
+//! handle(&mut book, &Request::Offer(job), &mut list)?; // Response::Offered { ticket: 7 }
 //! handle(&mut book, &Request::Tick, &mut list)?; // Response::Served(Served { setting: 2, count: 1 })
 //! ```
 #![tactic(auto)]
@@ -19,6 +20,7 @@ ghost use Rattle.life.specs.Promises.{Keeps};
 ghost use Rattle.life.specs.Requests.{request_outcome, event_of};
 
 use book::{Book, BookFault, Entry, Job, Served};
+use record::{Offer, Record};
 
 /// What a console asks of a book.
 #[derive(Clone, Copy, PartialEq, Eq, Debug)]
@@ -34,34 +36,66 @@ pub enum Request {
 /// What it is answered, where it is not refused.
 #[derive(Clone, Copy, PartialEq, Eq, Debug)]
 pub enum Response {
-    /// An offer is accepted, or a strike has closed its job.
-    Done,
-    /// The setting that a tick served, and how many entries it wrote.
+    /// The job with the ticket is open now.
+    Offered { ticket: u16 },
+    /// The job with the ticket is closed now.
+    Struck { ticket: u16 },
+    /// A tick is served.
     Served(Served),
 }
 
 impl Request {
+    ghost use Rattle.record.specs.Contents.{content_of};
+    ghost use Rattle.life.specs.Requests.{request_of};
+
+    /// What a record asks of a book. The label of an offer plays no part in it.
+    ///
+    /// ```text
+    /// Request::of(&Record::Strike { ticket: 7 }) // Request::Strike { ticket: 7 }
+    /// ```
+    pub fn of(record: &Record) -> Request
+        ensures { result ≡ request_of (content_of record.now) }
+    {
+        match *record {
+            Record::Offer(Offer { job, .. }) => Request::Offer(job),
+            Record::Strike { ticket } => Request::Strike { ticket },
+            Record::Tick => Request::Tick,
+        }
+    }
+
     // Makes the request of the book. The law is proved of `handle` from this contract.
     fn apply(&self, book: &mut Book, list: &mut [Entry]) -> Result<Response, BookFault>
         ensures answer { result ≡ (request_outcome book.old self.now list.old).answer }
         ensures after { book.new ≡ (request_outcome book.old self.now list.old).book }
         ensures list { list.new ≡ (request_outcome book.old self.now list.old).list }
     {
-        match *self {
-            Request::Offer(job) => book.offer(job)?,
-            Request::Strike { ticket } => book.strike(ticket)?,
-            Request::Tick => return Ok(Response::Served(book.tick(list)?)),
-        }
-        Ok(Response::Done)
+        Ok(match *self {
+            Request::Offer(job) => {
+                book.offer(job)?;
+                Response::Offered { ticket: job.ticket }
+            }
+            Request::Strike { ticket } => {
+                book.strike(ticket)?;
+                Response::Struck { ticket }
+            }
+            Request::Tick => Response::Served(book.tick(list)?),
+        })
     }
 }
 
-/// Makes the request of the book. The list is for the entries of a tick; the other requests leave it. A tick needs a list of 64 places.
+/// Makes the request of the book. The list is for the entries of a tick, which needs 64 places; the other requests leave it.
 ///
-/// Refuses what the book refuses.
+/// Every life that ends in the book as it was goes on with this call: it ends in the book as it is then, and keeps the three
+/// promises (`Keeps`, specs/Promises.antt).
 ///
-/// Every life that ends in the book as it was ends, with this call, in the book as it is then, and keeps the promises.
-/// The promises are `Keeps` (specs/Promises.antt).
+/// # Refusals
+///
+/// Those of the book's own call, [`Book::offer`], [`Book::strike`] or [`Book::tick`]. The book and the list are as they were
+/// then.
+///
+/// ```text
+/// handle(&mut book, &Request::Strike { ticket: 7 }, &mut list)?; // Response::Struck { ticket: 7 }
+/// ```
 pub fn handle(book: &mut Book, request: &Request, list: &mut [Entry]) -> Result<Response, BookFault>
     ensures answer { result ≡ (request_outcome book.old request.now list.old).answer }
     ensures after { book.new ≡ (request_outcome book.old request.now list.old).book }

@@ -10,7 +10,7 @@ use Rattle.layout.specs.Reading.{parse_answer, offset_after}
 use Rattle.layout.proofs.Readings.{read_end, read_cut, read_whole, not_cut, stays, moves_on}
 use Rattle.book.specs.declared.fault.BookFault.TheVariants.{Read}
 use Rattle.transcript.specs.declared.fault.BenchFault.TheVariants.{Book}
-use Rattle.transcript.specs.Entries.{PlainLine, refused, read_outcome, outcome_at, line_of_answer, line_at, book_before, is_over_after}
+use Rattle.transcript.specs.Lines.{PlainLine, refused, read_outcome, outcome_at, line_of_answer, line_at, book_before, is_over_after}
 use Rattle.transcript.specs.Run.{Run, next_line, next_run}
 use Rattle.transcript.specs.Text.{text_at, record_count}
 use Rattle.transcript.proofs.Faults.{goes_on, said}

@@ -1,5 +1,5 @@
 pub mod Refusals
-pub mod Entries
+pub mod Lines
 pub mod Text
 pub mod Run
 pub mod Bench

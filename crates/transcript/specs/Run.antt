@@ -1,10 +1,10 @@
 -- A run of the bench over an input.
-use Rattle.std.specs.Prelude.{◌≡◌, ℕ, ◌+◌, ◌-◌, ◌≤◌, Bool, true, false, cond, List, length, None, Option}
+use Rattle.std.specs.Prelude.{◌≡◌, ℕ, ◌+◌, ◌-◌, ◌≤◌, Bool, true, false, if◌then◌else◌, List, length, None, Option}
 use Rattle.layout.specs.Reading.{offset_after}
 use Rattle.book.specs.Book.{View, empty_book}
-use Rattle.transcript.specs.Entries.{PlainLine, Step, outcome_at, line_at, is_over_after}
+use Rattle.transcript.specs.Lines.{PlainLine, Step, outcome_at, line_at, is_over_after}
 
--- its input, the place of the next record, the book, and whether a fault has ended it
+-- its input, the offset of the next record, the book, and whether a fault has ended it
 pub record Run : Type 0 where
   pub input : List ℕ
   pub offset : ℕ
@@ -24,23 +24,23 @@ run_after_record r = record { input = r.input; offset = offset_after r.input r.o
 
 -- what is said of the next record
 abbrev pub next_line : Run → Option PlainLine
-next_line r = cond r.over None (line_at r.book r.input r.offset)
+next_line r = if r.over then None else line_at r.book r.input r.offset
 
 -- the run after it
 abbrev pub next_run : Run → Run
 next_run r = record {
   input = r.input;
-  offset = cond r.over r.offset (offset_after r.input r.offset);
-  book = cond r.over r.book (run_outcome r).book;
-  over = cond r.over true (is_over_after (run_outcome r).answer);
+  offset = if r.over then r.offset else offset_after r.input r.offset;
+  book = if r.over then r.book else (run_outcome r).book;
+  over = if r.over then true else is_over_after (run_outcome r).answer;
 }
 
 -- no fewer than the lines that are left: each passes a byte or more, but for a cut record, which ends the run
 abbrev pub lines_left : Run → ℕ
-lines_left r = length r.input - r.offset + cond r.over 0 1
+lines_left r = length r.input - r.offset + (if r.over then 0 else 1)
 
--- what is said of the next record, and the run after it, whose place lies within the input
+-- what is said of the next record, and the run after it, whose offset lies within the input
 pub record GivesNext (before : Run) (said : Option PlainLine) (after : Run) : Type 0 where
-  pub entry : said ≡ next_line before
+  pub line : said ≡ next_line before
   pub run : after ≡ next_run before
   pub within : after.offset ≤ length after.input

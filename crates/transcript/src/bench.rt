@@ -1,14 +1,12 @@
 // The bench works the records of a file one by one.
 ghost use Rattle.std.specs.Prelude.{◌≡◌, IsAscii};
-ghost use Rattle.layout.specs.Content.{content_of};
-ghost use Rattle.transcript.specs.Entries.{plain_option, request_of, plain_answer};
+ghost use Rattle.transcript.specs.Lines.{plain_option, plain_answer};
 ghost use Rattle.std.specs.Iterator.{at_most};
 ghost use Rattle.transcript.specs.Run.{start_run, run_outcome, run_after_record, lines_left, GivesNext};
 
 use super::fault::BenchFault;
 use super::line::{Line, Tick};
-use book::{Book, Entry, Job, PLACES, Served};
-use layout::{Offer, Record};
+use book::{Book, Entry, PLACES, Served};
 use life::{Request, Response, handle};
 use record::{Reader, shown};
 use std::marker::Model;
@@ -20,42 +18,12 @@ const DEFAULT_LABEL: &[u8] = b"house";
 // The top of the bench's book.
 const TOP: u16 = 4;
 
-// A place of a list that no entry is written into.
-const NO_ENTRY: Entry = Entry {
-    ticket: 0,
-    units: 0,
-};
-
 // A label as text.
 fn text(label: &[u8]) -> &str
     requires { IsAscii label.now }
     ensures { result.now ≡ label.now }
 {
     from_utf8(label).unwrap()
-}
-
-// What a record asks of the book.
-fn request_of(said: &Record) -> Request
-    ensures { result ≡ request_of (content_of said.now) }
-{
-    match *said {
-        Record::Offer(
-            Offer {
-                ticket,
-                arrival,
-                deadline,
-                work,
-                ..
-            },
-        ) => Request::Offer(Job {
-            ticket,
-            arrival,
-            deadline,
-            work,
-        }),
-        Record::Strike { ticket } => Request::Strike { ticket },
-        Record::Tick => Request::Tick,
-    }
 }
 
 /// Works the records of a file one by one with a book.
@@ -98,25 +66,24 @@ impl<'a> Bench<'a> {
         ensures said { plain_answer result ≡ (run_outcome self.old).answer }
         ensures after { self.new ≡ run_after_record self.old }
     {
-        let Some(record) = self.reader.next()? else {
+        let Some(record) = self.reader.read()? else {
             return Ok(None);
         };
         let now = self.book.now();
-        let mut list = [NO_ENTRY; PLACES];
-        let response = handle(&mut self.book, &request_of(&record), &mut list)?;
-        Ok(Some(match (record, response) {
-            (Record::Offer(Offer { ticket, label, .. }), Response::Done) => Line::Offered {
+        let mut list = [Entry::default(); PLACES];
+        let response = handle(&mut self.book, &Request::of(&record), &mut list)?;
+        Ok(Some(match response {
+            Response::Offered { ticket } => Line::Offered {
                 ticket,
-                label: text(shown(label, DEFAULT_LABEL)),
+                label: text(shown(record.label(), DEFAULT_LABEL)),
             },
-            (Record::Strike { ticket }, Response::Done) => Line::Struck { ticket },
-            (Record::Tick, Response::Served(Served { setting, count })) => Line::Ticked(Tick {
+            Response::Struck { ticket } => Line::Struck { ticket },
+            Response::Served(Served { setting, count }) => Line::Ticked(Tick {
                 now,
                 setting,
                 list,
                 count,
             }),
-            _ => unreachable!(),
         }))
     }
 }

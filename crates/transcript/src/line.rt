@@ -1,6 +1,6 @@
 // One line of the transcript.
 ghost use Rattle.std.specs.Prelude.{Some, take};
-ghost use Rattle.transcript.specs.Entries.{plain_line};
+ghost use Rattle.transcript.specs.Lines.{plain_line};
 ghost use Rattle.transcript.specs.Text.{plain_line_text, tick_text};
 
 use super::fault::BenchFault;
@@ -13,6 +13,7 @@ use std::fmt;
 pub struct Tick {
     /// The tick.
     pub now: u64,
+    /// Its setting, in units of work.
     pub setting: u8,
     /// The entries, in the first places.
     pub list: [Entry; PLACES],
@@ -37,9 +38,13 @@ impl fmt::Display for Tick {
 /// line feed.
 #[derive(Clone, Copy)]
 pub enum Line<'a> {
+    /// An accepted offer, with the label that it shows.
     Offered { ticket: u16, label: &'a str },
+    /// An accepted strike.
     Struck { ticket: u16 },
+    /// A tick.
     Ticked(Tick),
+    /// A record that is refused: its offset in the input, in bytes, and why.
     Refused { offset: usize, fault: BenchFault },
 }
 

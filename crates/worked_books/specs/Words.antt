@@ -7,8 +7,8 @@ use Rattle.schedule.specs.Certificate.{listed}
 use Rattle.power.specs.declared.fault.PowerFault.TheVariants.{Broken}
 use Rattle.power.specs.Loading.{load_answer}
 use Rattle.power.specs.Refusals.{power_refusal}
-use Rattle.book.specs.declared.job.Job.{Job}
-use Rattle.book.specs.declared.blocks.Block.{Block}
+use Rattle.layout.specs.declared.job.Job.{Job}
+use Rattle.book.specs.declared.blocks.CriticalBlock.{CriticalBlock}
 use Rattle.book.specs.declared.fault.BookFault.TheVariants.{Overload}
 use Rattle.book.specs.declared.tick.Entry.{Entry}
 use Rattle.book.specs.Refusals.{book_refusal}
@@ -48,9 +48,9 @@ pub record Sets (b : View) (xs : List ℕ) : Type 0 where
   pub written : (list : List ℕ) → length list ≡ 256 → Same horizon (listed (settings_outcome b list).list) (listed xs)
 
 -- given a list of 64 places, blocks writes the critical blocks cs into the first places, and answers their number
-pub record HasBlocks (b : View) (cs : List Block) : Type 0 where
-  pub answer : (list : List Block) → length list ≡ 64 → (blocks_outcome b list).answer ≡ Ok (length cs)
-  pub written : (list : List Block) → length list ≡ 64 → take (length cs) (blocks_outcome b list).list ≡ cs
+pub record HasBlocks (b : View) (cs : List CriticalBlock) : Type 0 where
+  pub answer : (list : List CriticalBlock) → length list ≡ 64 → (blocks_outcome b list).answer ≡ Ok (length cs)
+  pub written : (list : List CriticalBlock) → length list ≡ 64 → take (length cs) (blocks_outcome b list).list ≡ cs
 
 -- given a list of 64 places, tick writes the entries es into the first places, and answers the setting and their number
 pub record TickServes (b : View) (setting : ℕ) (es : List Entry) : Type 0 where

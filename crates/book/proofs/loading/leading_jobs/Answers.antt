@@ -1,8 +1,9 @@
 use Rattle.std.proofs.Common.{◌+◌, ◌∙◌, [], ◌∷◌, ◌++◌, length, get_or, drop, ap, sym, arith}
 use Rattle.std.proofs.lemmas.List.{length-append}
-use Rattle.book.specs.Images.{is_next_job, job_in}
+use Rattle.layout.specs.Jobs.{job_in}
+use Rattle.book.specs.Images.{is_next_job}
 use Rattle.book.specs.Reading.{leading_jobs}
-use Rattle.book.proofs.ImageReading.{some_if, none_if, one_more, no_more}
+use Rattle.book.proofs.Images.ImageRead.{some_if, none_if, one_more, no_more}
 use Rattle.book.proofs.loading.leading_jobs.Goals as goal
 
 pub returns-in_default : goal.returns-in_default

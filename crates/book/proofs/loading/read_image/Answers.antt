@@ -3,7 +3,7 @@ use Rattle.std.specs.List.{All}
 use Rattle.std.proofs.lemmas.Result.{err_from_is_err_and}
 use Rattle.book.specs.Book.{IsOpenAt, IsInOrder}
 use Rattle.book.specs.Calls.{overload_fault}
-use Rattle.book.proofs.ImageReading.{book_with, read_short, read_no_clock, read_wrong, well_formed_read, read_overload, read_book, lawful_read}
+use Rattle.book.proofs.Images.ImageRead.{book_with, read_short, read_no_clock, read_wrong, well_formed_read, read_overload, read_book, lawful_read}
 use Rattle.book.proofs.loading.read_image.Goals as goal
 
 pub returns-then-list-lt-IMAGE_LEN : goal.returns-then-list-lt-IMAGE_LEN

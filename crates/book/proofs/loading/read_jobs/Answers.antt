@@ -4,7 +4,7 @@ use Rattle.std.proofs.lemmas.List.{take_rest}
 use Rattle.std.proofs.lemmas.Iterator.{YieldsList-from_slice}
 use Rattle.std.proofs.lemmas.Iterator.Search.{position_from_yields_List}
 use Rattle.book.specs.Images.{blank_record}
-use Rattle.book.proofs.ImageReading.{count_within, rest_blank, rest_wrong}
+use Rattle.book.proofs.Images.ImageRead.{count_within, rest_blank, rest_wrong}
 use Rattle.book.proofs.loading.read_jobs.Goals as goal
 
 pub slice_bounds-iter-count : goal.slice_bounds-iter-count

@@ -1,7 +1,7 @@
 use Rattle.std.proofs.Common.{◌≡◌, None, Ok, Err, sym, subst, rules}
 use Rattle.book.specs.Book.{View, IsLawful}
 use Rattle.book.specs.Calls.{early_fault, offer_outcome}
-use Rattle.book.proofs.Offering.{admissible, no_fault, counted_order, counted_open, lawful-offered, only_overload}
+use Rattle.book.proofs.Offering.{admissible, no_fault, counted_order, counted_open, lawful-offer_outcome, only_overload}
 use Rattle.book.proofs.book.Book.offer.Goals as goal
 
 pub overload_fault-requires-clause-in_order : goal.overload_fault-requires-clause-in_order

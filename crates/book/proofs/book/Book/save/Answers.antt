@@ -4,7 +4,7 @@ use Rattle.std.proofs.lemmas.Bool.Decides.{nat_tests}
 use Rattle.book.specs.Book.{View, IsLawful}
 use Rattle.book.specs.Images.{job_record, blank_record}
 use Rattle.book.specs.Loads.{IsSizedAt}
-use Rattle.book.proofs.Saving.{begun_place, begun_all, sized_more, written_back}
+use Rattle.book.proofs.Images.ImageWritten.{begun_place, begun_all, sized_more, written_back}
 use Rattle.book.proofs.book.Book.save.Goals as goal
 
 pub loop-index-preserved : goal.loop-index-preserved

@@ -1,6 +1,6 @@
 use Rattle.std.proofs.Common.{◌≡◌, ℕ, ◌+◌, ◌<◌}
 use Rattle.book.specs.Loads.{IsSizedAt}
-use Rattle.book.proofs.Saving.{begun}
+use Rattle.book.proofs.Images.ImageWritten.{begun}
 use Rattle.book.proofs.book.Book.save.Given as goal
 
 abbrev pub invariant-loop-index : goal.invariant-loop-index

@@ -7,7 +7,7 @@ use Rattle.book.proofs.book.Book.settings.Goals as goal
 pub copy_from_slice-requires : goal.copy_from_slice-requires
 copy_from_slice-requires c =
     let long : length c.setting_bytes.result ≡ 256 = search rules in
-    omega (arith, length-take-le 256 c.args.list.now c.if-list-lt-SETTINGS.false)
+    omega (arith, length-take-le 256 c.args.list.now c.if-list-lt-HORIZON.false)
 
 pub returns-clause-list : goal.returns-clause-list
 returns-clause-list c =

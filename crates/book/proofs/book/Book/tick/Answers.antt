@@ -7,7 +7,8 @@ use Rattle.schedule.proofs.Theory.{theory}
 use Rattle.book.specs.declared.tick.Entry.{Entry}
 use Rattle.book.specs.Book.{View, last_tick}
 use Rattle.book.specs.Settings.{settings_of}
-use Rattle.book.specs.Ticks.{has_work, list_with}
+use Rattle.book.specs.Lists.{list_with}
+use Rattle.book.specs.Ticks.{has_work}
 use Rattle.book.proofs.Serving.{jobs_then, entries_then}
 use Rattle.book.proofs.Ticking.{gives_setting, lawful_after}
 use Rattle.book.proofs.book.Book.tick.Goals as goal

@@ -10,16 +10,18 @@ use Rattle.std.proofs.lemmas.Bool.Decides.{nat_tests}
 use Rattle.std.proofs.lemmas.List.{append_assoc, append-nil, drop-drop, length-append, length-take}
 use Rattle.std.proofs.lemmas.List.FromFn.{take-map-range_with_len}
 use Rattle.layout.specs.Layout.{arrival_of, work_of}
-use Rattle.book.specs.declared.job.Job.{Job}
+use Rattle.layout.specs.declared.job.Job.{Job}
 use Rattle.book.specs.declared.fault.BookFault.{BookFault}
 use Rattle.book.specs.declared.fault.BookFault.TheVariants.{Short, Image}
 use Rattle.book.specs.Book.{View, IsWellFormed, IsLawful}
-use Rattle.book.specs.Calls.{first_overload_of, overload_fault_at, overload_fault, Outcome, outcome}
-use Rattle.book.specs.Images.{blank_record, record_in, job_in, later_records, is_job_record, book_in, is_clock, is_next_job, first_not_blank, first_wrong_later, first_wrong, overload_record, load_fault, load_outcome}
+use Rattle.book.specs.Calls.{first_overload_of, overload_fault_at, overload_fault, plain_outcome}
+use Rattle.layout.specs.Jobs.{job_in}
+use Rattle.book.specs.Images.{blank_record, record_in, later_records, is_job_record, book_in, is_clock, is_next_job, first_not_blank, first_wrong_later, first_wrong, overload_record, load_fault, load_outcome}
 use Rattle.book.specs.Loads.{OnlyImages}
-use Rattle.book.specs.Reading.{leading_jobs, ok_unless}
-use Rattle.book.proofs.Loads.{only_images}
-use Rattle.book.proofs.Images.{jobs_of, jobs_of_more, jobs_of_none, first_blank, next_job_parts, wellformed_in, lawful_from}
+use Rattle.book.specs.Reading.{leading_jobs}
+use Rattle.book.specs.Outcomes.{Outcome, ok_unless}
+use Rattle.book.proofs.Images.AcceptedImages.{only_images}
+use Rattle.book.proofs.Images.BookSaid.{jobs_of, jobs_of_more, jobs_of_none, first_blank, next_job_parts, wellformed_in, lawful_from}
 
 -- what a test answers
 pub some_if : {A : Type 0} (b : Bool) (x y : A) → Some y ≡ (if b then Some x else None) → (b ≡ true) × (y ≡ x)
@@ -117,6 +119,10 @@ module _ (now count : ℕ) (rs : List (List ℕ)) (counted : count ≡ length (l
       let some : first_wrong_later now [] 1 rs ≡ Some (1 + count + i) = wrong_at ∙ ap (option_map (λ i. 1 + count + i)) e in
       ap (λ o. ok_unless (option_map Image o) (jobs_of rs)) (sym some)
 
+-- of the records of a list, the 64 after the first
+abbrev pub after_first : List (List ℕ) → List (List ℕ)
+after_first rs = take 64 (drop 1 rs)
+
 -- the records of a list as chunks
 chunks_are : (a k : ℕ) (list : List ℕ) → first_chunks 24 k (drop (24 * a) list) ≡ map (record_in list) (range_with_len a k)
 chunks_are a zero list = refl
@@ -131,10 +137,10 @@ module _ (n : ℕ) (list : List ℕ) (enough : 65 ≤ n) where
       let m : n ≡ suc (n - 1) = omega arith in
       ap (λ rs. get_or rs 0 d) (chunks_are 0 n list ∙ ap (λ k. map (record_in list) (range_with_len 0 k)) m)
 
-  pub later_are : take 64 (drop 1 (first_chunks 24 n list)) ≡ later_records list
+  pub later_are : after_first (first_chunks 24 n list) ≡ later_records list
   later_are =
       let m : n ≡ suc (n - 1) = omega arith in
-      ap (λ rs. take 64 (drop 1 rs)) (chunks_are 0 n list ∙ ap (λ k. map (record_in list) (range_with_len 0 k)) m)
+      ap after_first (chunks_are 0 n list ∙ ap (λ k. map (record_in list) (range_with_len 0 k)) m)
       ∙ take-map-range_with_len (record_in list) 1 (n - 1) 64 (omega arith)
 
 -- what is read, by what is said of it
@@ -192,10 +198,10 @@ module _ (list : List ℕ) (long : 1560 ≤ length list) (rs : List (List ℕ)) 
   first_record : get_or rs 0 [] ≡ record_in list 0
   first_record = ap (λ rs. get_or rs 0 []) cut ∙ first_is (length list / 24) list (omega arith) []
 
-  later : take 64 (drop 1 rs) ≡ later_records list
-  later = ap (λ rs. take 64 (drop 1 rs)) cut ∙ later_are (length list / 24) list (omega arith)
+  later : after_first rs ≡ later_records list
+  later = ap after_first cut ∙ later_are (length list / 24) list (omega arith)
 
-  pub few_records : length (take 64 (drop 1 rs)) ≤ 64
+  pub few_records : length (after_first rs) ≤ 64
   few_records = omega (arith, length-take 64 (drop 1 rs))
 
   pub read_no_clock : None ≡ clock_answer (get_or rs 0 []) → Err (Image 0) ≡ reading list
@@ -208,24 +214,24 @@ module _ (list : List ℕ) (long : 1560 ≤ length list) (rs : List (List ℕ)) 
     clock : (is_clock (record_in list 0) ≡ true) × (◌≡◌ {A = ℕ × ℕ} (now, top) (arrival_of (record_in list 0), work_of (record_in list 0)))
     clock = some_if (is_clock (record_in list 0)) (arrival_of (record_in list 0), work_of (record_in list 0)) (now, top) (said ∙ ap clock_answer first_record)
 
-    wrong_by : first_wrong list ≡ first_wrong_later now [] 1 (take 64 (drop 1 rs))
+    wrong_by : first_wrong list ≡ first_wrong_later now [] 1 (after_first rs)
     wrong_by =
         cond-true (is_clock (record_in list 0)) (first_wrong_later (arrival_of (record_in list 0)) [] 1 (later_records list)) (Some 0) clock.0
         ∙ (λ i. first_wrong_later (sym clock.1 i).0 [] 1 (sym later i))
 
-    pub read_wrong : (fault : BookFault) → Err fault ≡ jobs_answer now (take 64 (drop 1 rs)) → Err fault ≡ reading list
+    pub read_wrong : (fault : BookFault) → Err fault ≡ jobs_answer now (after_first rs) → Err fault ≡ reading list
     read_wrong fault e =
-        let some = fault_only (option_map Image (first_wrong_later now [] 1 (take 64 (drop 1 rs)))) fault (jobs_of (take 64 (drop 1 rs))) e in
+        let some = fault_only (option_map Image (first_wrong_later now [] 1 (after_first rs))) fault (jobs_of (after_first rs)) e in
         let first = wrong_first (first_wrong list) (overload_record (book_in list)) fault (ap (option_map Image) wrong_by ∙ some) in
         sym (read_by list long ∙ ap (λ o. ok_unless o (book_in list)) first)
 
-    module _ (js : List Job) (read : Ok js ≡ jobs_answer now (take 64 (drop 1 rs))) where
+    module _ (js : List Job) (read : Ok js ≡ jobs_answer now (after_first rs)) where
       -- then no record is wrong, and the book is that of the image
-      sound : (option_map Image (first_wrong_later now [] 1 (take 64 (drop 1 rs))) ≡ None) × (js ≡ jobs_of (take 64 (drop 1 rs)))
-      sound = read_only (option_map Image (first_wrong_later now [] 1 (take 64 (drop 1 rs)))) js (jobs_of (take 64 (drop 1 rs))) read
+      sound : (option_map Image (first_wrong_later now [] 1 (after_first rs)) ≡ None) × (js ≡ jobs_of (after_first rs))
+      sound = read_only (option_map Image (first_wrong_later now [] 1 (after_first rs))) js (jobs_of (after_first rs)) read
 
       none_wrong : first_wrong list ≡ None
-      none_wrong = wrong_by ∙ no_number (first_wrong_later now [] 1 (take 64 (drop 1 rs))) sound.0
+      none_wrong = wrong_by ∙ no_number (first_wrong_later now [] 1 (after_first rs)) sound.0
 
       same : book_with now top js ≡ book_in list
       same = let jobs : js ≡ jobs_of (later_records list) = sound.1 ∙ ap jobs_of later in λ i. record { now = (clock.1 i).0; top = (clock.1 i).1; jobs = jobs i }
@@ -253,13 +259,13 @@ module _ (list : List ℕ) (long : 1560 ≤ length list) (rs : List (List ℕ)) 
 
 -- what load answers and leaves, by what it reads
 pub load_refused : (b : View) (list : List ℕ) (fault : BookFault) → Err fault ≡ reading list → load_outcome b list ≡ record { answer = Err fault; book = b }
-load_refused b list fault e = ap (λ o. outcome o b (book_in list)) (fault_only (load_fault list) fault (book_in list) e)
+load_refused b list fault e = ap (λ o. plain_outcome o b (book_in list)) (fault_only (load_fault list) fault (book_in list) e)
 
 pub load_accepted : (b after : View) (list : List ℕ) → Ok after ≡ reading list → load_outcome b list ≡ record { answer = Ok tt; book = after }
 load_accepted b after list e =
     let read = read_only (load_fault list) after (book_in list) e in
-    ap (λ o. outcome o b (book_in list)) read.0 ∙ ap (λ (v : View). record { answer = Ok tt; book = v }) (sym read.1)
+    ap (λ o. plain_outcome o b (book_in list)) read.0 ∙ ap (λ (v : View). record { answer = Ok tt; book = v }) (sym read.1)
 
 -- and what that tells of the list
 pub only_loaded : (b : View) (list : List ℕ) (answer : Result (Unit {0}) BookFault) (after : View) → 1560 ≤ length list → load_outcome b list ≡ record { answer = answer; book = after } → OnlyImages list answer after
-only_loaded b list answer after long e = subst (λ (o : Outcome). OnlyImages list o.answer o.book) e (only_images b list long)
+only_loaded b list answer after long e = subst (λ (o : Outcome (Unit {0}) BookFault (Unit {0})). OnlyImages list o.answer o.book) e (only_images b list long)

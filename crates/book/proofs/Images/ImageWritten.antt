@@ -4,12 +4,12 @@ use Rattle.std.proofs.lemmas.List.{append-nil, append_assoc, take_more, take_all
 use Rattle.std.proofs.lemmas.List.Concat.{flat_map-append}
 use Rattle.std.proofs.lemmas.List.Elements.{All-take}
 use borrow.Rule.Slice.PartMut.{put_mid}
-use Rattle.book.specs.declared.job.Job.{Job}
+use Rattle.layout.specs.declared.job.Job.{Job}
 use Rattle.book.specs.Book.{View, IsLawful}
 use Rattle.book.specs.Images.{job_record, blank_record, image_records, image}
 use Rattle.book.specs.Loads.{IsSizedAt, LoadsBack}
-use Rattle.book.proofs.Records.{joined, AllWhole, length-joined}
-use Rattle.book.proofs.Loads.{records_whole, length-image_records, loads_back}
+use Rattle.book.proofs.Images.RecordLists.{joined, AllWhole, length-joined}
+use Rattle.book.proofs.Images.AcceptedImages.{records_whole, length-image_records, loads_back}
 
 -- the records of the places: those of the jobs, then blank ones
 pub record_at : (js : List Job) (n i : ℕ) → get_or (map job_record js) i blank_record ≡ get_or (map job_record js ++ replicate n blank_record) i blank_record

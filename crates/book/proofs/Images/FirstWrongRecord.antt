@@ -11,19 +11,20 @@ use Rattle.std.proofs.lemmas.List.Folds.{list_any_none}
 use Rattle.std.proofs.lemmas.List.Quantifiers.{position-Some}
 use Rattle.std.proofs.lemmas.Slice.Eq.{bytes_eq-Decides}
 use Rattle.layout.proofs.BigEndian.{number-bytes}
-use Rattle.book.specs.declared.job.Job.{Job}
+use Rattle.layout.specs.declared.job.Job.{Job}
 use Rattle.book.specs.Jobs.{is_before, has_ticket, is_ticket_open}
 use Rattle.book.specs.Book.{IsOpenAt}
-use Rattle.book.specs.Images.{job_record, blank_record, job_in, can_be_open, is_next_job, first_not_blank, first_wrong_later}
-use Rattle.book.specs.Loads.{IsSizedJob}
-use Rattle.book.proofs.Images.{all_before, map_none, Standing, Follows, bytes_fit, standing_push, next_job_parts, jobs_of, jobs_of_more, jobs_of_none}
+use Rattle.layout.specs.Jobs.{job_in}
+use Rattle.book.specs.Images.{job_record, blank_record, can_be_open, is_next_job, first_not_blank, first_wrong_later}
+use Rattle.layout.specs.Jobs.{IsSized}
+use Rattle.book.proofs.Images.BookSaid.{all_before, map_none, Standing, Follows, bytes_fit, standing_push, next_job_parts, jobs_of, jobs_of_more, jobs_of_none}
 
 -- the test of a job that is open
 test_from_open : (now : ℕ) (j : Job) → IsOpenAt now j → can_be_open now j ≡ true
 test_from_open now j h = grind (arith, nat_tests, h.some_ticket, h.work_left, h.not_due, h.in_sight, h.in_time, h.some_window, h.short_window)
 
 -- the record of a job says the job
-pub said : (now : ℕ) (j : Job) → IsOpenAt now j → IsSizedJob j → job_in (job_record j) ≡ j
+pub said : (now : ℕ) (j : Job) → IsOpenAt now j → IsSized j → job_in (job_record j) ≡ j
 said now j o s =
     let ticket = number-bytes 2 j.ticket s.ticket in
     let arrival = number-bytes 6 j.arrival (omega (arith, o.in_time, o.some_window)) in
@@ -32,7 +33,7 @@ said now j o s =
     λ i. record { ticket = ticket i; arrival = arrival i; deadline = deadline i; work = work i }
 
 -- what a record says that has the form of a job's has the sizes of the fields
-sized : (r : List ℕ) → r ≡ job_record (job_in r) → IsSizedJob (job_in r)
+sized : (r : List ℕ) → r ≡ job_record (job_in r) → IsSized (job_in r)
 sized r e =
     let j = job_in r in
     record { ticket = rw (ap (λ r. (job_in r).ticket) e) (bytes_fit 2 j.ticket); work = rw (ap (λ r. (job_in r).work) e) (bytes_fit 2 j.work) }
@@ -58,7 +59,7 @@ follows now before j js s =
     }
 
 -- the record of a job that follows those before is that of a next job
-follower_is_next : (now : ℕ) (before : List Job) (j : Job) → IsSizedJob j → Follows now before j → is_next_job now before (job_record j) ≡ true
+follower_is_next : (now : ℕ) (before : List Job) (j : Job) → IsSized j → Follows now before j → is_next_job now before (job_record j) ≡ true
 follower_is_next now before j s f =
     let says = said now j f.open_at s in
     subst (λ i. (bytes_eq (job_record j) (job_record i) && (can_be_open now i && (list_all (λ k. is_before k i) before && not (is_ticket_open i.ticket before)))) ≡ true) (sym says)
@@ -120,7 +121,7 @@ abbrev pub later_of : List Job → ℕ → List (List ℕ)
 later_of js n = map job_record js ++ replicate n blank_record
 
 -- the record of a job that can be open with those before is not the wrong one
-passes : (now : ℕ) (before : List Job) (j : Job) (js : List Job) (k : ℕ) (r : List ℕ) (rs : List (List ℕ)) (x : Option ℕ) → Standing now (before ++ (j ∷ js)) → IsSizedJob j → r ≡ job_record j
+passes : (now : ℕ) (before : List Job) (j : Job) (js : List Job) (k : ℕ) (r : List ℕ) (rs : List (List ℕ)) (x : Option ℕ) → Standing now (before ++ (j ∷ js)) → IsSized j → r ≡ job_record j
     → first_wrong_later now before k (r ∷ rs) ≡ x → first_wrong_later now (before ++ (j ∷ [])) (k + 1) rs ≡ x
 passes now before j js k r rs x s fit same e =
     let f = follows now before j js s in
@@ -129,19 +130,19 @@ passes now before j js k r rs x s fit same e =
     ap (λ i. first_wrong_later now (before ++ (i ∷ [])) (k + 1) rs) (sym says) ∙ (sym (later_on now before k r rs on) ∙ e)
 
 -- no record of jobs that can be open together is wrong, nor any blank one after them
-pub never_wrong : (now : ℕ) (before js : List Job) (n k i : ℕ) (rs : List (List ℕ)) → Standing now (before ++ js) → All IsSizedJob js → take (suc i) rs ≡ take (suc i) (later_of js n)
+pub never_wrong : (now : ℕ) (before js : List Job) (n k i : ℕ) (rs : List (List ℕ)) → Standing now (before ++ js) → All IsSized js → take (suc i) rs ≡ take (suc i) (later_of js n)
     → first_wrong_later now before k rs ≡ Some (k + i) → ⊥
 never_wrong now before js n k i [] s fit same e = cc
 never_wrong now before (j ∷ js) n k zero (r ∷ rs) s fit same e =
     let here : r ≡ job_record j = cc in
-    let found = within now (before ++ (j ∷ [])) (k + 1) rs (k + 0) (passes now before j js k r rs (Some (k + 0)) s (All-head IsSizedJob j js fit) here e) in
+    let found = within now (before ++ (j ∷ [])) (k + 1) rs (k + 0) (passes now before j js k r rs (Some (k + 0)) s (All-head IsSized j js fit) here e) in
     omega (arith, found.2)
 never_wrong now before (j ∷ js) n k (suc i) (r ∷ rs) s fit same e =
     let here : r ≡ job_record j = cc in
     let behind : take (suc i) rs ≡ take (suc i) (later_of js n) = cc in
     let number : k + suc i ≡ k + 1 + i = omega arith in
-    never_wrong now (before ++ (j ∷ [])) js n (k + 1) i rs (subst (Standing now) (sym (append_assoc before (j ∷ []) js)) s) (All-tail IsSizedJob j js fit) behind
-    (passes now before j js k r rs (Some (k + 1 + i)) s (All-head IsSizedJob j js fit) here (e ∙ ap (λ x. Some x) number))
+    never_wrong now (before ++ (j ∷ [])) js n (k + 1) i rs (subst (Standing now) (sym (append_assoc before (j ∷ []) js)) s) (All-tail IsSized j js fit) behind
+    (passes now before j js k r rs (Some (k + 1 + i)) s (All-head IsSized j js fit) here (e ∙ ap (λ x. Some x) number))
 never_wrong now before [] zero k i (r ∷ rs) s fit same e = cc
 never_wrong now before [] (suc n) k i (r ∷ rs) s fit same e =
     let here : r ≡ blank_record = cc in
@@ -157,19 +158,19 @@ none_or_some None never = refl
 none_or_some (Some x) never = absurd (never x refl)
 
 -- so the search finds none in a book's records
-pub none_wrong : (now : ℕ) (before js : List Job) (n k : ℕ) → Standing now (before ++ js) → All IsSizedJob js → first_wrong_later now before k (later_of js n) ≡ None
+pub none_wrong : (now : ℕ) (before js : List Job) (n k : ℕ) → Standing now (before ++ js) → All IsSized js → first_wrong_later now before k (later_of js n) ≡ None
 none_wrong now before js n k s fit =
     none_or_some (first_wrong_later now before k (later_of js n)) (λ x e.
     let found = within now before k (later_of js n) x e in
     never_wrong now before js n k found.0 (later_of js n) s fit refl (e ∙ ap (λ x. Some x) (sym found.2)))
 
 -- the jobs that a book's records say are the book's
-pub jobs_back : (now : ℕ) (js : List Job) (n : ℕ) → All (IsOpenAt now) js → All IsSizedJob js → jobs_of (later_of js n) ≡ js
+pub jobs_back : (now : ℕ) (js : List Job) (n : ℕ) → All (IsOpenAt now) js → All IsSized js → jobs_of (later_of js n) ≡ js
 jobs_back now [] zero o s = refl
 jobs_back now [] (suc n) o s = jobs_of_none blank_record (replicate n blank_record) refl
 jobs_back now (j ∷ js) n o s =
-    let here = said now j (All-head (IsOpenAt now) j js o) (All-head IsSizedJob j js s) in
-    let rest = jobs_back now js n (All-tail (IsOpenAt now) j js o) (All-tail IsSizedJob j js s) in
+    let here = said now j (All-head (IsOpenAt now) j js o) (All-head IsSized j js s) in
+    let rest = jobs_back now js n (All-tail (IsOpenAt now) j js o) (All-tail IsSized j js s) in
     jobs_of_more (job_record j) (later_of js n) refl ∙ (λ i. here i ∷ rest i)
 
 -- where no record is filled, all are blank
@@ -194,7 +195,7 @@ blank_before i rs e =
 pub record Showing (now : ℕ) (before : List Job) (rs : List (List ℕ)) : Type 0 where
   pub jobs : List Job
   pub standing : Standing now (before ++ jobs)
-  pub fit : All IsSizedJob jobs
+  pub fit : All IsSized jobs
   pub few : length jobs ≤ length rs
   pub form : rs ≡ later_of jobs (length rs - length jobs)
 
@@ -202,14 +203,14 @@ pub record Showing (now : ℕ) (before : List Job) (rs : List (List ℕ)) : Type
 showing_blank : (now : ℕ) (before : List Job) (rs : List (List ℕ)) (n : ℕ) → Standing now before → rs ≡ replicate n blank_record → Showing now before rs
 showing_blank now before rs n s e =
     let long : length rs ≡ n = ap length e ∙ length-replicate n blank_record in
-    record { jobs = []; standing = subst (Standing now) (sym (append-nil before)) s; fit = All-nil IsSizedJob; few = omega arith; form = e ∙ ap (λ n. replicate n blank_record) (omega (arith, long)) }
+    record { jobs = []; standing = subst (Standing now) (sym (append-nil before)) s; fit = All-nil IsSized; few = omega arith; form = e ∙ ap (λ n. replicate n blank_record) (omega (arith, long)) }
 
 -- the record of one job more
 showing_more : (now : ℕ) (before : List Job) (r : List ℕ) (rs : List (List ℕ)) → r ≡ job_record (job_in r) → Showing now (before ++ (job_in r ∷ [])) rs → Showing now before (r ∷ rs)
 showing_more now before r rs e s = record {
   jobs = job_in r ∷ s.jobs;
   standing = subst (Standing now) (append_assoc before (job_in r ∷ []) s.jobs) s.standing;
-  fit = All-cons IsSizedJob (job_in r) s.jobs (sized r e) s.fit;
+  fit = All-cons IsSized (job_in r) s.jobs (sized r e) s.fit;
   few = omega (arith, s.few);
   form =
       let count : length rs - length s.jobs ≡ suc (length rs) - suc (length s.jobs) = omega arith in

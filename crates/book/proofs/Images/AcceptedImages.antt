@@ -13,16 +13,17 @@ use Rattle.schedule.specs.InForce.{horizon}
 use Rattle.schedule.specs.Overload.{Searched}
 use Rattle.layout.specs.Layout.{arrival_of, work_of}
 use Rattle.layout.proofs.BigEndian.{number-bytes}
-use Rattle.book.specs.declared.job.Job.{Job}
+use Rattle.layout.specs.declared.job.Job.{Job}
 use Rattle.book.specs.declared.fault.BookFault.TheVariants.{Short, Image}
 use Rattle.book.specs.Demands.{demands}
 use Rattle.book.specs.Book.{View, IsWellFormed, IsLawful, empty_book}
-use Rattle.book.specs.Calls.{outcome, first_overload_of}
+use Rattle.book.specs.Calls.{plain_outcome, first_overload_of}
 use Rattle.book.specs.Images.{is_clock, book_in, first_wrong, length_fault, load_fault, load_outcome, clock_record, image, image_records, record_in, later_records, job_record, blank_record, first_wrong_later}
-use Rattle.book.specs.Loads.{IsSizedJob, AreSized, Shows, CanBegin, IsFirstWrong, OnlyImages, LoadsBack}
-use Rattle.book.proofs.Records.{records, AllWhole, length-joined, begins_records, records_begin}
-use Rattle.book.proofs.WrongRecords.{later_of, within, never_wrong, none_wrong, jobs_back, begins, shows_all}
-use Rattle.book.proofs.Images.{Standing, jobs_of, book_of, searched, none_standing, clock_parts, wellformed_jobs, wellformed_in, lawful_from}
+use Rattle.layout.specs.Jobs.{IsSized}
+use Rattle.book.specs.Loads.{AreSized, Shows, CanBegin, IsFirstWrong, OnlyImages, LoadsBack}
+use Rattle.book.proofs.Images.RecordLists.{records, AllWhole, length-joined, begins_records, records_begin}
+use Rattle.book.proofs.Images.FirstWrongRecord.{later_of, within, never_wrong, none_wrong, jobs_back, begins, shows_all}
+use Rattle.book.proofs.Images.BookSaid.{Standing, jobs_of, book_of, searched, none_standing, clock_parts, wellformed_jobs, wellformed_in, lawful_from}
 
 -- all records of a book are whole
 pub records_whole : (b : View) → AllWhole (image_records b)
@@ -154,15 +155,15 @@ loads_back b rest lawful fit =
     let none = loads (image b ++ rest) b lawful fit shows in
     record {
       shows = shows;
-      back = λ before. (ap (λ f. (outcome f before (book_in (image b ++ rest))).answer) none, ap (λ f. (outcome f before (book_in (image b ++ rest))).book) none ∙ book_shown b w fit (image b ++ rest) shows);
+      back = λ before. (ap (λ f. (plain_outcome f before (book_in (image b ++ rest))).answer) none, ap (λ f. (plain_outcome f before (book_in (image b ++ rest))).book) none ∙ book_shown b w fit (image b ++ rest) shows);
     }
 
 -- records of which none is wrong are those of the book that they say
-records_hold : (r : List ℕ) (rs : List (List ℕ)) → first_wrong_later (arrival_of r) [] 1 rs ≡ None → (rs ≡ later_of (jobs_of rs) (length rs - length (jobs_of rs))) × All IsSizedJob (jobs_of rs)
+records_hold : (r : List ℕ) (rs : List (List ℕ)) → first_wrong_later (arrival_of r) [] 1 rs ≡ None → (rs ≡ later_of (jobs_of rs) (length rs - length (jobs_of rs))) × All IsSized (jobs_of rs)
 records_hold r rs e =
     let s = shows_all (arrival_of r) [] 1 rs (none_standing (arrival_of r)) e in
     let same : s.jobs ≡ jobs_of rs = sym (ap jobs_of s.form ∙ jobs_back (arrival_of r) s.jobs (length rs - length s.jobs) s.standing.open_at s.fit) in
-    (subst (λ js. rs ≡ later_of js (length rs - length js)) same s.form, subst (All IsSizedJob) same s.fit)
+    (subst (λ js. rs ≡ later_of js (length rs - length js)) same s.form, subst (All IsSized) same s.fit)
 
 length-later_records : (list : List ℕ) → length (later_records list) ≡ 64
 length-later_records list = length-map-range_with_len (record_in list) 1 64
@@ -195,7 +196,7 @@ empty_wellformed =
 -- the first record is the first wrong one where it is not that of a now and a top
 wrong_clock : (list : List ℕ) → is_clock (record_in list 0) ≡ false → IsFirstWrong 0 list
 wrong_clock list f = record {
-  before = (empty_book 0 1, empty_wellformed, All-nil IsSizedJob, refl);
+  before = (empty_book 0 1, empty_wellformed, All-nil IsSized, refl);
   none_with = λ can.
       let parts = begun_parts 0 list can.0 (omega arith) can.1.few can.3 in
       both_ways (is_clock (record_in list 0)) f (ap is_clock parts.0 ∙ clock_accepted can.0 can.1);
@@ -239,7 +240,7 @@ first_wrong list k e = go (is_clock (record_in list 0)) refl e
 
 -- what an answer of load tells
 pub only_images : (before : View) (list : List ℕ) → 1560 ≤ length list → OnlyImages list (load_outcome before list).answer (load_outcome before list).book
-only_images before list le = subst (λ f. OnlyImages list (outcome f before (book_in list)).answer (outcome f before (book_in list)).book) (sym fault_is) (go (first_wrong list) refl (first_overload_of (book_in list)) refl)
+only_images before list le = subst (λ f. OnlyImages list (plain_outcome f before (book_in list)).answer (plain_outcome f before (book_in list)).book) (sym fault_is) (go (first_wrong list) refl (first_overload_of (book_in list)) refl)
   where
     fault_is : load_fault list ≡ option_map Image (option_or (first_wrong list) (option_map (λ ab. 65) (first_overload_of (book_in list))))
     fault_is = ap (λ f. option_or f (option_map Image (option_or (first_wrong list) (option_map (λ ab. 65) (first_overload_of (book_in list)))))) (long_enough list le)
@@ -248,7 +249,7 @@ only_images before list le = subst (λ f. OnlyImages list (outcome f before (boo
     none_over_shown b l fit shows = ap first_overload_of (book_shown b l.well_formed fit list shows) ∙ none_over b l
 
     go : (w : Option ℕ) → first_wrong list ≡ w → (o : Option (ℕ × ℕ)) → first_overload_of (book_in list) ≡ o
-        → OnlyImages list (outcome (option_map Image (option_or w (option_map (λ ab. 65) o))) before (book_in list)).answer (outcome (option_map Image (option_or w (option_map (λ ab. 65) o))) before (book_in list)).book
+        → OnlyImages list (plain_outcome (option_map Image (option_or w (option_map (λ ab. 65) o))) before (book_in list)).answer (plain_outcome (option_map Image (option_or w (option_map (λ ab. 65) o))) before (book_in list)).book
     go (Some n) e o s =
         let wrong = first_wrong list n e in
         record {
