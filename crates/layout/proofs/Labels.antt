@@ -5,13 +5,13 @@ use Rattle.std.proofs.lemmas.List.{length-take-le, get_or-take, get_or-reverse, 
 use Rattle.std.proofs.lemmas.List.Sums.{suffix_len-le-length, prefix_len_passes}
 use Rattle.std.proofs.lemmas.Bool.{eqb-true, cases_lt}
 use Rattle.std.proofs.lemmas.Bool.Decides.{nat_tests}
-use Rattle.layout.specs.Label.{trimmed_label, all_printable, is_label}
+use Rattle.layout.specs.Label.{trimmed_label, is_all_printable, is_label}
 
-pub label_is : (l : List ℕ) (b : Bool) → length l ≡ 6 → all_printable l ≡ b → is_label l ≡ b
+pub label_is : (l : List ℕ) (b : Bool) → length l ≡ 6 → is_all_printable l ≡ b → is_label l ≡ b
 label_is l b e p = grind (arith, nat_tests)
 
 -- what the test of a label says
-pub label_parts : (l : List ℕ) → is_label l ≡ true → (length l ≡ 6) × (all_printable l ≡ true)
+pub label_parts : (l : List ℕ) → is_label l ≡ true → (length l ≡ 6) × (is_all_printable l ≡ true)
 label_parts l e = (grind (arith, nat_tests), grind (arith, nat_tests))
 
 -- what is trimmed off is spaces

@@ -9,11 +9,12 @@ use Rattle.layout.specs.declared.kind.Kind.{Kind}
 use Rattle.layout.specs.declared.kind.Kind.TheVariants.{Offer, Strike, Tick}
 use Rattle.layout.specs.BigEndian.{number, bytes, part}
 use Rattle.layout.specs.Content.{Content, offer, strike, tick}
+use Rattle.layout.specs.Jobs.{job_in, record_bytes}
 use Rattle.layout.specs.Label.{is_label}
-use Rattle.layout.specs.Layout.{ticket_of, arrival_of, deadline_of, work_of, label_of, kind_byte, kind_of, is_printable, numbers_end, is_label_byte, is_allowed, first_forbidden}
+use Rattle.layout.specs.Layout.{label_in, kind_byte, kind_of, is_printable, numbers_end, is_label_byte, is_allowed, first_forbidden}
 use Rattle.layout.specs.Reading.{content_in}
 use Rattle.layout.specs.RoundTrip.{trimmed_content, IsWritable, IsOnlyForm}
-use Rattle.layout.specs.Writing.{kind_bytes, blank_label, encoding_of}
+use Rattle.layout.specs.Writing.{bare_job, blank_label, encoding_of}
 use Rattle.layout.proofs.BigEndian.{spelt_out, bytes-number, number_fits}
 use Rattle.layout.proofs.Labels.{label_is, label_parts, same_from_trimmed}
 use Rattle.layout.proofs.WrittenReads.{offer_parts}
@@ -59,8 +60,8 @@ module _ (k : Kind) (b : List ℕ) (long : length b ≡ 24) (small : (i : ℕ) �
   part_fits : (at n : ℕ) → at + n ≤ 24 → number (part at n b) < 256 ^ n
   part_fits at n h = number_fits (drop at b) (small_part at) n (omega (arith, length-drop at b))
 
-  laid_fields : kind_bytes k (ticket_of b) (arrival_of b) (deadline_of b) (work_of b) (label_of b) ≡ b
-  laid_fields =
+  record_bytes-in : record_bytes (kind_byte k) (job_in b) (label_in b) ≡ b
+  record_bytes-in =
       let zero_one : get_or b 1 0 ≡ 0 = zero_there k 1 (get_or b 1 0) (omega arith) refl (allowed_at 1 (omega arith) (omega arith)) in
       (λ i. sym kind i ∷ sym zero_one i ∷ (part_bytes 2 2 (omega arith) i ++ (part_bytes 4 6 (omega arith) i ++ (part_bytes 10 6 (omega arith) i ++ (part_bytes 16 2 (omega arith) i ++ part 18 6 b)))))
       ∙ sym (subst (λ x. x ≡ fields x) (sym (spelt_out 24 b long)) refl)
@@ -75,46 +76,46 @@ module _ (k : Kind) (b : List ℕ) (long : length b ≡ 24) (small : (i : ℕ) �
   label_at : (i : ℕ) → 18 ≤ i → i < 24 → is_label_byte k (get_or b i 0) ≡ true
   label_at i l h = label_there k i (get_or b i 0) l (allowed_at i (omega arith) h)
 
-  length_label : length (label_of b) ≡ 6
+  length_label : length (label_in b) ≡ 6
   length_label = length-take-le 6 (drop 18 b) (omega (arith, length-drop 18 b))
 
-  label_blank : ((v : ℕ) → is_label_byte k v ≡ true → v ≡ 0x20) → blank_label ≡ label_of b
+  label_blank : ((v : ℕ) → is_label_byte k v ≡ true → v ≡ 0x20) → blank_label ≡ label_in b
   label_blank s = sym (filled_part b 18 6 0x20 (omega arith) (λ i l q. s (get_or b i 0) (label_at i l (omega arith))))
 
   -- a record with no number but its ticket, and a blank label
-  laid_blank : numbers_end k ≤ 4 → ((v : ℕ) → is_label_byte k v ≡ true → v ≡ 0x20) → kind_bytes k (ticket_of b) 0 0 0 blank_label ≡ b
-  laid_blank e s =
+  record_bytes-bare_job : numbers_end k ≤ 4 → ((v : ℕ) → is_label_byte k v ≡ true → v ≡ 0x20) → record_bytes (kind_byte k) (bare_job (job_in b).ticket) blank_label ≡ b
+  record_bytes-bare_job e s =
       let arrival = no_field 4 6 e (omega arith) (omega arith) in
       let deadline = no_field 10 6 (omega arith) (omega arith) (omega arith) in
       let work = no_field 16 2 (omega arith) (omega arith) (omega arith) in
       let label = label_blank s in
-      (λ i. kind_bytes k (ticket_of b) (arrival i) (deadline i) (work i) (label i)) ∙ laid_fields
+      (λ i. record_bytes (kind_byte k) (record { ticket = (job_in b).ticket; arrival = arrival i; deadline = deadline i; work = work i }) (label i)) ∙ record_bytes-in
 
 -- the content with its whole label
 abbrev whole : Kind → List ℕ → Content
-whole Offer b = offer (ticket_of b) (arrival_of b) (deadline_of b) (work_of b) (label_of b)
-whole Strike b = strike (ticket_of b)
+whole Offer b = offer (job_in b) (label_in b)
+whole Strike b = strike (job_in b).ticket
 whole Tick b = tick
 
-bare_whole : (k : Kind) (b : List ℕ) → trimmed_content (whole k b) ≡ content_in k b
-bare_whole Offer b = refl
-bare_whole Strike b = refl
-bare_whole Tick b = refl
+trimmed_content-whole : (k : Kind) (b : List ℕ) → trimmed_content (whole k b) ≡ content_in k b
+trimmed_content-whole Offer b = refl
+trimmed_content-whole Strike b = refl
+trimmed_content-whole Tick b = refl
 
 module _ (b : List ℕ) (long : length b ≡ 24) (small : (i : ℕ) → get_or b i 0 < 256) where
-  encoded_whole : (k : Kind) → get_or b 0 0 ≡ kind_byte k → first_forbidden k 1 (drop 1 b) ≡ None → encoding_of (whole k b) ≡ b
-  encoded_whole Offer e f = laid_fields Offer b long small e f
-  encoded_whole Strike e f = laid_blank Strike b long small e f (omega arith) (λ v h. eqb-true v 0x20 h)
-  encoded_whole Tick e f =
+  encoding_of-whole : (k : Kind) → get_or b 0 0 ≡ kind_byte k → first_forbidden k 1 (drop 1 b) ≡ None → encoding_of (whole k b) ≡ b
+  encoding_of-whole Offer e f = record_bytes-in Offer b long small e f
+  encoding_of-whole Strike e f = record_bytes-bare_job Strike b long small e f (omega arith) (λ v h. eqb-true v 0x20 h)
+  encoding_of-whole Tick e f =
       let ticket = no_field Tick b long small e f 2 2 (omega arith) (omega arith) (omega arith) in
-      (λ i. kind_bytes Tick (ticket i) 0 0 0 blank_label) ∙ laid_blank Tick b long small e f (omega arith) (λ v h. eqb-true v 0x20 h)
+      (λ i. record_bytes (kind_byte Tick) (bare_job (ticket i)) blank_label) ∙ record_bytes-bare_job Tick b long small e f (omega arith) (λ v h. eqb-true v 0x20 h)
 
-  label_whole : get_or b 0 0 ≡ kind_byte Offer → first_forbidden Offer 1 (drop 1 b) ≡ None → is_label (label_of b) ≡ true
+  label_whole : get_or b 0 0 ≡ kind_byte Offer → first_forbidden Offer 1 (drop 1 b) ≡ None → is_label (label_in b) ≡ true
   label_whole e f =
       let l = length_label Offer b long small e f in
       let at = λ (i : ℕ) (h : i < 6). get_or-take 6 (drop 18 b) i 0 h ∙ get_or-drop 18 b i 0 in
-      let each = λ (i : ℕ) (h : i < length (label_of b)). ap is_printable (at i (omega (arith, l))) ∙ label_at Offer b long small e f (18 + i) (omega arith) (omega (arith, l)) in
-      label_is (label_of b) true l (list_all-from_AllPass is_printable (label_of b) (All-from_get_or (λ v. is_printable v ≡ true) (label_of b) 0 each))
+      let each = λ (i : ℕ) (h : i < length (label_in b)). ap is_printable (at i (omega (arith, l))) ∙ label_at Offer b long small e f (18 + i) (omega arith) (omega (arith, l)) in
+      label_is (label_in b) true l (list_all-from_AllPass is_printable (label_in b) (All-from_get_or (λ v. is_printable v ≡ true) (label_in b) 0 each))
 
   writable_whole : (k : Kind) → get_or b 0 0 ≡ kind_byte k → first_forbidden k 1 (drop 1 b) ≡ None → IsWritable (whole k b)
   writable_whole Offer e f =
@@ -122,23 +123,23 @@ module _ (b : List ℕ) (long : length b ≡ 24) (small : (i : ℕ) → get_or b
       let label = label_whole e f in
       let arrival = fits 4 6 (omega arith) in
       let deadline = fits 10 6 (omega arith) in
-      ((fits 2 2 (omega arith), fits 16 2 (omega arith)), grind (arith, nat_tests))
+      (record { ticket = fits 2 2 (omega arith); work = fits 16 2 (omega arith) }, grind (arith, nat_tests))
   writable_whole Strike e f = (part_fits Strike b long small e f 2 2 (omega arith), refl)
   writable_whole Tick e f = (tt, refl)
 
 -- contents that the writer takes and that read back the same are the same
 same_content : (x y : Content) → IsWritable x → IsWritable y → trimmed_content x ≡ trimmed_content y → x ≡ y
-same_content (offer t a d w l) (offer u b e v m) p q h =
-    let le = (label_parts l (offer_parts a d l p.1).2).0 in
-    let me = (label_parts m (offer_parts b e m q.1).2).0 in
+same_content (offer j l) (offer k m) p q h =
+    let le = (label_parts l (offer_parts j l p.1).2).0 in
+    let me = (label_parts m (offer_parts k m q.1).2).0 in
     let same : l ≡ m = same_from_trimmed l m (le ∙ sym me) cc in
     cc
-same_content (offer t a d w l) (strike u) p q h = cc
-same_content (offer t a d w l) tick p q h = cc
-same_content (strike t) (offer u b e v m) p q h = cc
+same_content (offer j l) (strike u) p q h = cc
+same_content (offer j l) tick p q h = cc
+same_content (strike t) (offer k m) p q h = cc
 same_content (strike t) (strike u) p q h = h
 same_content (strike t) tick p q h = cc
-same_content tick (offer u b e v m) p q h = cc
+same_content tick (offer k m) p q h = cc
 same_content tick (strike u) p q h = cc
 same_content tick tick p q h = refl
 
@@ -152,7 +153,7 @@ pub only_form : (k : Kind) (b : List ℕ) → length b ≡ 24 → ((i : ℕ) →
 only_form k b long small e f c is =
     let kind = kind_byte_lem (get_or b 0 0) k (sym e) in
     let ready = writable_whole b long small k kind (sym f) in
-    let reads = bare_whole k b ∙ sym is in (
+    let reads = trimmed_content-whole k b ∙ sym is in (
       (whole k b, (ready, reads)),
-      λ x w h. ap encoding_of (same_content x (whole k b) w ready (h ∙ sym reads)) ∙ encoded_whole b long small k kind (sym f),
+      λ x w h. ap encoding_of (same_content x (whole k b) w ready (h ∙ sym reads)) ∙ encoding_of-whole b long small k kind (sym f),
     )

@@ -6,7 +6,7 @@ use Rattle.layout.specs.declared.kind.Kind.{Kind}
 use Rattle.layout.specs.BigEndian.{part}
 use Rattle.layout.specs.Content.{Content}
 use Rattle.layout.specs.Layout.{kind_of, first_forbidden}
-use Rattle.layout.specs.Reading.{content_in, unless_forbidden, parse_answer_by, parse_answer, some_content, read_answer, offset_after}
+use Rattle.layout.specs.Reading.{content_in, content_unless_forbidden, parse_answer_by, parse_answer, some_content, read_answer, offset_after}
 
 module _ (s : List ℕ) (p : ℕ) where
   pub read_end : length s ≤ p → read_answer s p ≡ Ok None
@@ -24,7 +24,7 @@ module _ (s : List ℕ) (p : ℕ) where
   pub moves_on : p + 24 ≤ length s → offset_after s p ≡ p + 24
   moves_on h = grind (arith, nat_tests)
 
-not_cut_unless : (p : ℕ) (c : Content) (o : Option ℕ) (at : ℕ) → unless_forbidden p o c ≡ Err (Cut at) → ⊥
+not_cut_unless : (p : ℕ) (c : Content) (o : Option ℕ) (at : ℕ) → content_unless_forbidden p o c ≡ Err (Cut at) → ⊥
 not_cut_unless p c None at e = cc
 not_cut_unless p c (Some i) at e = cc
 

@@ -3,36 +3,38 @@ use Rattle.std.proofs.Common.{◌≡◌, ℕ, ◌+◌, ◌^◌, ◌<◌, ◌≤�
 use Rattle.std.proofs.lemmas.List.{take_all, take_at, drop_at, length-append}
 use Rattle.std.proofs.lemmas.Bool.Decides.{nat_tests}
 use Rattle.layout.specs.declared.fault.WriteFault.{WriteFault}
+use Rattle.layout.specs.declared.job.Job.{Job}
 use Rattle.layout.specs.declared.kind.Kind.TheVariants.{Offer}
 use Rattle.layout.specs.Content.{Content, offer, strike, tick}
-use Rattle.layout.specs.Label.{trimmed_label, is_label, all_printable}
-use Rattle.layout.specs.Layout.{first_forbidden}
-use Rattle.layout.specs.Reading.{content_in, unless_forbidden, parse_answer, some_content}
+use Rattle.layout.specs.Label.{trimmed_label, is_label, is_all_printable}
+use Rattle.layout.specs.Layout.{kind_byte, first_forbidden}
+use Rattle.layout.specs.Reading.{content_in, content_unless_forbidden, parse_answer, some_content}
 use Rattle.layout.specs.RoundTrip.{IsSizedContent, trimmed_content, IsWritable, ReadsAs}
 use Rattle.layout.specs.Writing.{write_check, offer_check, encoding_of, encode_answer, write_answer, list_after_write, list_after}
 use Rattle.layout.proofs.BigEndian.{number-bytes}
+use Rattle.layout.proofs.Encodings.{job_in-record_bytes}
 use Rattle.layout.proofs.Labels.{label_parts}
 use Rattle.layout.proofs.Readings.{read_whole}
 
 -- what an offer that is not refused has
-pub offer_parts : (a d : ℕ) (l : List ℕ) → offer_check a d l ≡ Ok tt → (a < 2 ^ 48) × (d < 2 ^ 48) × (is_label l ≡ true)
-offer_parts a d l e = (grind (arith, nat_tests), grind (arith, nat_tests), grind (arith, nat_tests))
+pub offer_parts : (j : Job) (l : List ℕ) → offer_check j l ≡ Ok tt → (j.arrival < 2 ^ 48) × (j.deadline < 2 ^ 48) × (is_label l ≡ true)
+offer_parts j l e = (grind (arith, nat_tests), grind (arith, nat_tests), grind (arith, nat_tests))
 
-label_allowed : (l : List ℕ) (i : ℕ) → 18 ≤ i → all_printable l ≡ true → first_forbidden Offer i l ≡ None
+label_allowed : (l : List ℕ) (i : ℕ) → 18 ≤ i → is_all_printable l ≡ true → first_forbidden Offer i l ≡ None
 label_allowed [] i h e = refl
 label_allowed (b ∷ l) i h e = let rest = label_allowed l (i + 1) (omega arith) in grind (arith, nat_tests)
 
 pub length-encoding_of : (x : Content) → write_check x ≡ Ok tt → length (encoding_of x) ≡ 24
-length-encoding_of (offer t a d w l) e = omega (arith, (label_parts l (offer_parts a d l e).2).0)
+length-encoding_of (offer j l) e = omega (arith, (label_parts l (offer_parts j l e).2).0)
 length-encoding_of (strike t) e = refl
 length-encoding_of tick e = refl
 
 pub parse_answer-encoding_of : (p : ℕ) (x : Content) → IsWritable x → parse_answer p (encoding_of x) ≡ Ok (trimmed_content x)
-parse_answer-encoding_of p (offer t a d w l) h =
-    let o = offer_parts a d l h.1 in
+parse_answer-encoding_of p (offer j l) h =
+    let o = offer_parts j l h.1 in
     let k = label_parts l o.2 in
-    ap (λ f. unless_forbidden p f (content_in Offer (encoding_of (offer t a d w l)))) (label_allowed l 18 (omega arith) k.1)
-    ∙ (λ i. Ok (offer (number-bytes 2 t h.0.0 i) (number-bytes 6 a o.0 i) (number-bytes 6 d o.1 i) (number-bytes 2 w h.0.1 i) (trimmed_label (take_all 6 l (omega (arith, k.0)) i))))
+    ap (λ f. content_unless_forbidden p f (content_in Offer (encoding_of (offer j l)))) (label_allowed l 18 (omega arith) k.1)
+    ∙ (λ i. Ok (offer (job_in-record_bytes (kind_byte Offer) j l h.0 o.0 o.1 i) (trimmed_label (take_all 6 l (omega (arith, k.0)) i))))
 parse_answer-encoding_of p (strike t) h = ap (λ n. Ok (strike n)) (number-bytes 2 t h.0)
 parse_answer-encoding_of p tick h = refl
 

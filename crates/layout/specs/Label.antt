@@ -16,9 +16,9 @@ abbrev pub shown_label : List ℕ → List ℕ → List ℕ
 shown_label [] default = default
 shown_label (b ∷ bs) default = b ∷ bs
 
-abbrev pub all_printable : List ℕ → Bool
-all_printable l = list_all is_printable l
+abbrev pub is_all_printable : List ℕ → Bool
+is_all_printable l = list_all is_printable l
 
 -- six bytes that a label may hold
 abbrev pub is_label : List ℕ → Bool
-is_label l = length l == 6 && all_printable l
+is_label l = length l == 6 && is_all_printable l

@@ -1,25 +1,14 @@
 -- The layout of 24 bytes: byte 0 the kind, byte 1 zero, then ticket (2-3), arrival (4-9), deadline (10-15),
 -- work (16-17) and label (18-23).
-use Rattle.std.specs.Prelude.{ℕ, ◌+◌, Bool, cond, ◌&&◌, ◌||◌, List, [], ◌∷◌, Some, None, Option, ◌==◌, nat_le, nat_lt}
+use Rattle.std.specs.Prelude.{ℕ, ◌+◌, Bool, if◌then◌else◌, ◌&&◌, ◌||◌, ◌==◌, nat_le, nat_lt}
+use Rattle.std.specs.Prelude.{List, [], ◌∷◌, Some, None, Option}
 use Rattle.layout.specs.declared.kind.Kind.{Kind}
 use Rattle.layout.specs.declared.kind.Kind.TheVariants.{Offer, Strike, Tick}
-use Rattle.layout.specs.BigEndian.{number, part}
+use Rattle.layout.specs.BigEndian.{part}
 
--- the fields of 24 bytes
-abbrev pub ticket_of : List ℕ → ℕ
-ticket_of b = number (part 2 2 b)
-
-abbrev pub arrival_of : List ℕ → ℕ
-arrival_of b = number (part 4 6 b)
-
-abbrev pub deadline_of : List ℕ → ℕ
-deadline_of b = number (part 10 6 b)
-
-abbrev pub work_of : List ℕ → ℕ
-work_of b = number (part 16 2 b)
-
-abbrev pub label_of : List ℕ → List ℕ
-label_of b = part 18 6 b
+-- the label in 24 bytes
+abbrev pub label_in : List ℕ → List ℕ
+label_in b = part 18 6 b
 
 abbrev pub kind_byte : Kind → ℕ
 kind_byte Offer = 0x4f
@@ -28,10 +17,9 @@ kind_byte Tick = 0x54
 
 abbrev pub kind_of : ℕ → Option Kind
 kind_of b =
-    cond (b == 0x4f) (Some Offer)
-    (cond (b == 0x53) (Some Strike)
-    (cond (b == 0x54) (Some Tick)
-    None))
+    if b == 0x4f then Some Offer else
+    if b == 0x53 then Some Strike else
+    if b == 0x54 then Some Tick else None
 
 -- a label holds bytes from 20 to 7E, hexadecimal
 abbrev pub is_printable : ℕ → Bool
@@ -49,12 +37,13 @@ is_label_byte Offer b = is_printable b
 is_label_byte Strike b = b == 0x20
 is_label_byte Tick b = b == 0x20
 
--- whether a record of the kind may have the byte b at the place i after byte 0:
--- any in its numbers, zero elsewhere before the label
-abbrev pub is_allowed : Kind → ℕ → ℕ → Bool
-is_allowed k i b = cond (nat_lt i 18) ((nat_le 2 i && nat_lt i (numbers_end k)) || b == 0) (is_label_byte k b)
+-- whether the byte i of a record of the kind, after byte 0, may be b:
+-- it may be any in the numbers, and is zero elsewhere before the label
+abbrev pub is_allowed : Kind → (i b : ℕ) → Bool
+is_allowed k i b =
+    if nat_lt i 18 then (nat_le 2 i && nat_lt i (numbers_end k)) || b == 0 else is_label_byte k b
 
--- the first place that the layout forbids, of bytes that stand from the place i on
-abbrev pub first_forbidden : Kind → ℕ → List ℕ → Option ℕ
+-- the number of the first byte that the layout forbids, of the bytes of a record from byte i on
+abbrev pub first_forbidden : Kind → (i : ℕ) → List ℕ → Option ℕ
 first_forbidden k i [] = None
-first_forbidden k i (b ∷ bs) = cond (is_allowed k i b) (first_forbidden k (i + 1) bs) (Some i)
+first_forbidden k i (b ∷ bs) = if is_allowed k i b then first_forbidden k (i + 1) bs else Some i

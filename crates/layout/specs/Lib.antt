@@ -2,6 +2,7 @@ pub mod Refusals
 pub mod Content
 pub mod BigEndian
 pub mod Layout
+pub mod Jobs
 pub mod Label
 pub mod Reading
 pub mod Writing

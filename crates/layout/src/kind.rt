@@ -18,8 +18,11 @@ pub const WORK: usize = 16;
 /// Where the label begins, which ends with the record.
 pub const LABEL: usize = 18;
 
-/// The bytes of one record.
-pub const RECORD_LEN: usize = 24;
+/// The bytes of a label: 6.
+pub const LABEL_LEN: usize = 6;
+
+/// The bytes of a record: 24.
+pub const RECORD_LEN: usize = LABEL + LABEL_LEN;
 
 /// What a record is, with the byte 0 that says so.
 #[derive(Clone, Copy, PartialEq, Eq, Debug)]

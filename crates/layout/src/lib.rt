@@ -19,12 +19,10 @@
 //! the crate `record` has the reader and the writer.
 #![tactic(auto)]
 
-mod content;
 mod fault;
+mod job;
 mod kind;
 
-pub use content::{Offer, Record};
 pub use fault::{ReadFault, WriteFault, WrittenField};
-pub use kind::{
-    ARRIVAL, DEADLINE, Kind, LABEL, RECORD_LEN, TICKET, UnknownKind, WORK, is_printable,
-};
+pub use job::{Job, LAST_TICK};
+pub use kind::{Kind, LABEL, LABEL_LEN, RECORD_LEN, UnknownKind, is_printable};

@@ -2,10 +2,7 @@
 ghost use Rattle.std.specs.Prelude.{◌≡◌};
 ghost use Rattle.layout.specs.Label.{trimmed_label, shown_label, is_label};
 
-use layout::is_printable;
-
-// A label has six bytes.
-const LABEL_LEN: usize = 6;
+use layout::{LABEL_LEN, is_printable};
 
 // The label without its last spaces.
 pub(super) fn trim(label: &[u8]) -> &[u8]
@@ -22,7 +19,7 @@ pub(super) fn is_label(label: &[u8]) -> bool
     label.len() == LABEL_LEN && label.iter().all(|byte| is_printable(*byte))
 }
 
-/// What the label of an offer that was read shows: itself, or the caller's default text where it is blank.
+/// What a label that was read shows: itself, or the caller's default text where it is blank.
 ///
 /// Neither is copied. `shown(b"fader", b"house")` is the bytes `fader`, and `shown(b"", b"house")` is `house`.
 pub fn shown<'a>(label: &'a [u8], default: &'a [u8]) -> &'a [u8]

@@ -1,45 +1,40 @@
-// The reader: a struct over the input with a place.
+// The reader: a struct over the input with an offset.
 ghost use Rattle.std.specs.Prelude.{◌≡◌, ◌+◌, ◌^◌, ◌<◌, ◌≤◌, length};
-ghost use Rattle.layout.specs.Content.{content_of};
-ghost use Rattle.layout.specs.Reading.{content_in, parse_answer, parse_answer_of, some_content, read_answer, read_answer_of, position_after};
-ghost use Rattle.layout.specs.RoundTrip.{IsOnlyForm};
 ghost use Rattle.layout.specs.BigEndian.{part};
+ghost use Rattle.layout.specs.Reading.{content_in, parse_answer, some_content, read_answer, position_after};
+ghost use Rattle.layout.specs.RoundTrip.{IsOnlyForm};
+ghost use Rattle.record.specs.Content.{content_of, parse_answer_of, read_answer_of};
 
+use super::content::{Offer, Record};
 use super::label::trim;
-use super::numbers::Numbers;
-use layout::{Kind, LABEL, Offer, RECORD_LEN, ReadFault, Record};
+use layout::{Job, Kind, LABEL, RECORD_LEN, ReadFault};
 use std::marker::Model;
 
 // What the bytes of an allowed record say.
 fn content_of(kind: Kind, bytes: &[u8; RECORD_LEN]) -> Record<'_>
     ensures { content_of result ≡ content_in kind bytes.now }
 {
-    let numbers = Numbers::of(bytes);
+    let job = Job::of_record(bytes);
     match kind {
         Kind::Offer => Record::Offer(Offer {
-            ticket: numbers.ticket,
-            arrival: numbers.arrival,
-            deadline: numbers.deadline,
-            work: numbers.work,
+            job,
             label: trim(&bytes[LABEL..]),
         }),
-        Kind::Strike => Record::Strike {
-            ticket: numbers.ticket,
-        },
+        Kind::Strike => Record::Strike { ticket: job.ticket },
         Kind::Tick => Record::Tick,
     }
 }
 
-// The record of these bytes, which stand at the place in the input.
+// The record of these bytes, which stand at the offset in the input.
 fn parse(bytes: &[u8; RECORD_LEN], offset: usize) -> Result<Record<'_>, ReadFault>
     requires { offset + 24 < 2 ^ 64 }
     ensures said { parse_answer_of result ≡ parse_answer offset bytes.now }
     ensures only { IsOnlyForm (some_content (parse_answer_of result)) bytes.now }
 {
     let kind = Kind::try_from(bytes[0]).map_err(|_| ReadFault::UnknownKind { offset })?;
-    if let Some(at) = kind.first_forbidden(bytes) {
+    if let Some(index) = kind.first_forbidden(bytes) {
         return Err(ReadFault::Forbidden {
-            offset: offset + at,
+            offset: offset + index,
         });
     }
     Ok(content_of(kind, bytes))
@@ -51,7 +46,7 @@ fn parse(bytes: &[u8; RECORD_LEN], offset: usize) -> Result<Record<'_>, ReadFaul
 ///
 /// ```text
 /// let mut reader = Reader::new(input);
-/// while let Some(record) = reader.next()? { .. }
+/// while let Some(record) = reader.read()? { .. }
 /// ```
 #[derive(Drop)]
 pub struct Reader<'a> {
@@ -78,7 +73,7 @@ impl<'a> Reader<'a> {
         Reader { input, offset: 0 }
     }
 
-    /// The place of the next record, in bytes from the start of the input.
+    /// The offset of the next record, in bytes from the start of the input.
     pub fn offset(&self) -> usize
         ensures offset { result ≡ self.now.offset }
         ensures within { result ≤ length self.now.input }
@@ -90,7 +85,7 @@ impl<'a> Reader<'a> {
     ///
     /// Refuses a record that is cut, of an unknown kind or with a byte that its layout forbids, with the values that
     /// [`ReadFault`] names. After the last two it goes on with the next record.
-    pub fn next(&mut self) -> Result<Option<Record<'a>>, ReadFault>
+    pub fn read(&mut self) -> Result<Option<Record<'a>>, ReadFault>
         ensures said { read_answer_of result ≡ read_answer self.old.input self.old.offset }
         ensures only { IsOnlyForm (read_answer_of result) (part self.old.offset 24 self.old.input) }
         ensures after { self.new ≡ position_after self.old }

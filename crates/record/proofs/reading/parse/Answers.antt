@@ -1,15 +1,15 @@
 use Rattle.std.proofs.Common.{◌≡◌, ℕ, ◌<◌, ◌∙◌, Some, sym, get_or, drop, arith, rules}
 use Rattle.std.proofs.lemmas.List.{length-drop}
-use Rattle.layout.specs.Content.{content_of}
 use Rattle.layout.specs.Layout.{kind_of}
 use Rattle.layout.proofs.OneForm.{only_form}
 use Rattle.layout.proofs.Layouts.{forbidden_within}
+use Rattle.record.specs.Content.{content_of}
 use Rattle.record.proofs.reading.parse.Goals as goal
 
 pub overflow_add-result : goal.overflow_add-result
 overflow_add-result c =
     let b = c.args.bytes.now in
-    omega (arith, forbidden_within c.in_ok-kind.kind 1 (drop 1 b) c.in-Some.at c.in-Some.ensures, length-drop 1 b)
+    omega (arith, forbidden_within c.in_ok-kind.kind 1 (drop 1 b) c.in-Some.index c.in-Some.ensures, length-drop 1 b)
 
 pub returns-clause-only : goal.returns-clause-only
 returns-clause-only c =

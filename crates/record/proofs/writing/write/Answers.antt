@@ -1,4 +1,4 @@
-use Rattle.layout.specs.Content.{content_of}
+use Rattle.record.specs.Content.{content_of}
 use Rattle.layout.proofs.WrittenReads.{write_accepts, write_fills, write_reads}
 use Rattle.record.proofs.writing.write.Goals as goal
 

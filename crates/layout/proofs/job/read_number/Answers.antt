@@ -4,8 +4,8 @@ use Rattle.std.proofs.iter.runs.Made.{chains}
 use Rattle.std.proofs.lemmas.List.{take_all}
 use Rattle.layout.specs.BigEndian.{number}
 use Rattle.layout.proofs.BigEndian.{number_fits}
-use Rattle.record.proofs.Shifts.{shifted_in, fold-shifted_in}
-use Rattle.record.proofs.numbers.read_number.Goals as goal
+use Rattle.layout.proofs.Shifts.{shifted_in, fold-shifted_in}
+use Rattle.layout.proofs.job.read_number.Goals as goal
 
 pub returns : goal.returns
 returns c =

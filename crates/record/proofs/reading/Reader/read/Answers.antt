@@ -1,8 +1,9 @@
 use Rattle.std.proofs.Common.{◌≡◌, ◌∙◌, ap, take, drop, arith, rules}
 use Rattle.std.proofs.lemmas.List.{take_all, length-drop}
 use Rattle.layout.specs.BigEndian.{part}
-use Rattle.layout.specs.Reading.{Position, some_content, parse_answer_of, read_answer_of}
-use Rattle.record.proofs.reading.Reader.next.Goals as goal
+use Rattle.layout.specs.Reading.{Position, some_content}
+use Rattle.record.specs.Content.{parse_answer_of, read_answer_of}
+use Rattle.record.proofs.reading.Reader.read.Goals as goal
 
 pub returns-clause-only : goal.returns-clause-only
 returns-clause-only c =

@@ -1,2 +1,0 @@
-mod Encodings
-mod Shifts
