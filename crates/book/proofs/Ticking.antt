@@ -19,7 +19,8 @@ use Rattle.layout.specs.declared.job.Job.{Job}
 use Rattle.book.specs.declared.tick.Entry.{Entry}
 use Rattle.book.specs.Jobs.{is_before}
 use Rattle.book.specs.Demands.{demand, demands}
-use Rattle.book.specs.Book.{View, IsOpenAt, IsLawful, last_tick}
+use Rattle.book.specs.Book.{View, IsOpenAt, IsLawful}
+use Rattle.layout.specs.Jobs.{last_tick}
 use Rattle.book.specs.Settings.{settings_of}
 use Rattle.book.specs.Ticks.{shares, worked_job, entry_of, entries_of, has_work, shares_of, book_after_tick}
 use Rattle.book.proofs.DemandFacts.{sound-demands}

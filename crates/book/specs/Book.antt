@@ -4,6 +4,7 @@ use Rattle.std.specs.List.{AllPairs}
 use Rattle.schedule.specs.InForce.{horizon}
 use Rattle.schedule.specs.Overload.{NoneOverloaded}
 use Rattle.layout.specs.declared.job.Job.{Job}
+use Rattle.layout.specs.Jobs.{last_tick}
 use Rattle.book.specs.Jobs.{is_before}
 use Rattle.book.specs.Demands.{demands}
 
@@ -12,10 +13,6 @@ pub record View : Type 0 where
   pub now : ℕ
   pub top : ℕ
   pub jobs : List Job
-
--- the last tick of all, 2^48 − 1
-abbrev pub last_tick : ℕ
-last_tick = 281474976710655
 
 -- a job as it can be open at now
 pub record IsOpenAt (now : ℕ) (j : Job) : Type 0 where

@@ -3,14 +3,12 @@ use Rattle.std.specs.Prelude.{ℕ, ◌+◌, ◌-◌, ◌*◌, ◌++◌, Bool, �
 use Rattle.std.specs.List.{range_with_len, flat_map, list_all}
 use Rattle.std.specs.Option.{option_map, option_or}
 use Rattle.layout.specs.BigEndian.{part}
-use Rattle.layout.specs.Jobs.{job_in}
-use Rattle.layout.specs.Layout.{arrival_of, work_of}
-use Rattle.layout.specs.Writing.{record_bytes}
+use Rattle.layout.specs.Jobs.{job_in, last_tick, record_bytes}
 use Rattle.layout.specs.declared.job.Job.{Job}
 use Rattle.book.specs.declared.fault.BookFault.{BookFault}
 use Rattle.book.specs.declared.fault.BookFault.TheVariants.{Short, Image}
 use Rattle.book.specs.Jobs.{is_before, is_ticket_open}
-use Rattle.book.specs.Book.{View, last_tick}
+use Rattle.book.specs.Book.{View}
 use Rattle.book.specs.Outcomes.{Outcome, accepted, outcome}
 use Rattle.book.specs.Calls.{plain_outcome, first_overload_of}
 
@@ -46,6 +44,13 @@ save_outcome b list = outcome (length_fault list) b list (accepted tt b (image b
 abbrev pub record_in : List ℕ → ℕ → List ℕ
 record_in list k = part (24 * k) 24 list
 
+-- the now and the top that a record says: they stand where a job has its arrival and its work
+abbrev pub now_in : List ℕ → ℕ
+now_in r = (job_in r).arrival
+
+abbrev pub top_in : List ℕ → ℕ
+top_in r = (job_in r).work
+
 -- the records after the first
 abbrev pub later_records : List ℕ → List (List ℕ)
 later_records list = map (record_in list) (range_with_len 1 64)
@@ -57,8 +62,8 @@ is_job_record r = slice_index r 0 == 0x4a
 -- the book that an image says: its jobs stand in the records up to the first of another kind
 abbrev pub book_in : List ℕ → View
 book_in list = record {
-  now = arrival_of (record_in list 0);
-  top = work_of (record_in list 0);
+  now = now_in (record_in list 0);
+  top = top_in (record_in list 0);
   jobs = map job_in (take_while is_job_record (later_records list));
 }
 
@@ -70,7 +75,7 @@ can_be_open now j =
 
 -- whether a record is that of some now and top
 abbrev pub is_clock : List ℕ → Bool
-is_clock r = bytes_eq r (clock_record (arrival_of r) (work_of r)) && (nat_le 1 (work_of r) && nat_le (work_of r) 255)
+is_clock r = bytes_eq r (clock_record (now_in r) (top_in r)) && (nat_le 1 (top_in r) && nat_le (top_in r) 255)
 
 -- whether a record is that of a next job after those before: of a job that is served after them and can be open besides them
 abbrev pub is_next_job : (now : ℕ) (before : List Job) → List ℕ → Bool
@@ -92,7 +97,7 @@ first_wrong_later now before k (r ∷ rs) =
 -- the number of the first record of a list that is wrong
 abbrev pub first_wrong : List ℕ → Option ℕ
 first_wrong list =
-    if is_clock (record_in list 0) then first_wrong_later (arrival_of (record_in list 0)) [] 1 (later_records list) else Some 0
+    if is_clock (record_in list 0) then first_wrong_later (now_in (record_in list 0)) [] 1 (later_records list) else Some 0
 
 -- an overload is told as the number after the last record
 abbrev pub overload_record : View → Option ℕ

@@ -3,13 +3,13 @@ use Rattle.std.specs.Prelude.{◌≡◌, ℕ, ◌+◌, Bool, if◌then◌else◌
 use Rattle.std.specs.List.{filter, zip}
 use Rattle.schedule.specs.Edf.{serve}
 use Rattle.layout.specs.declared.job.Job.{Job}
-use Rattle.layout.specs.Jobs.{job_after}
+use Rattle.layout.specs.Jobs.{job_after, last_tick}
 use Rattle.book.specs.declared.fault.BookFault.{BookFault}
 use Rattle.book.specs.declared.fault.BookFault.TheVariants.{Short, LastTick}
 use Rattle.book.specs.declared.tick.Entry.{Entry}
 use Rattle.book.specs.declared.tick.Served.{Served}
 use Rattle.book.specs.Demands.{demands}
-use Rattle.book.specs.Book.{View, last_tick}
+use Rattle.book.specs.Book.{View}
 use Rattle.book.specs.Lists.{list_with}
 use Rattle.book.specs.Outcomes.{Outcome, accepted, outcome}
 use Rattle.book.specs.Settings.{settings_of}

@@ -3,7 +3,7 @@ ghost use Rattle.std.specs.Prelude.{◌≡◌, ◌≤◌, ◌++◌, length, map,
 ghost use Rattle.schedule.specs.InForce.{horizon};
 ghost use Rattle.schedule.specs.Theory.{Blocked};
 ghost use Rattle.book.specs.Demands.{demands};
-ghost use Rattle.book.specs.Book.{last_tick};
+ghost use Rattle.layout.specs.Jobs.{last_tick};
 ghost use Rattle.book.specs.Blocks.{block_in_time, blocks_outcome};
 
 use super::book::Book;

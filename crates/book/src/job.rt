@@ -2,7 +2,7 @@
 ghost use Rattle.std.specs.Prelude.{◌≡◌, ◌≤◌};
 ghost use Rattle.book.specs.Jobs.{is_before};
 ghost use Rattle.book.specs.Demands.{demand};
-ghost use Rattle.book.specs.Book.{last_tick};
+ghost use Rattle.layout.specs.Jobs.{last_tick};
 ghost use Rattle.book.specs.Outcomes.{ok_unless};
 ghost use Rattle.book.specs.Calls.{field_fault};
 

@@ -1,10 +1,8 @@
 // The book that an image says, and which record of it is wrong.
 ghost use Rattle.std.specs.Prelude.{◌≡◌, ◌≤◌, Some, None, [], length, if◌then◌else◌, map, take_while};
 ghost use Rattle.std.specs.Option.{option_map};
-ghost use Rattle.layout.specs.Jobs.{job_in};
-ghost use Rattle.layout.specs.Layout.{arrival_of, work_of};
-ghost use Rattle.book.specs.Book.{last_tick};
-ghost use Rattle.book.specs.Images.{can_be_open, is_job_record, is_clock, is_next_job, first_wrong_later, load_fault, book_in};
+ghost use Rattle.layout.specs.Jobs.{job_in, last_tick};
+ghost use Rattle.book.specs.Images.{top_in, now_in, can_be_open, is_job_record, is_clock, is_next_job, first_wrong_later, load_fault, book_in};
 ghost use Rattle.book.specs.Outcomes.{ok_unless};
 ghost use Rattle.book.specs.Reading.{leading_jobs};
 
@@ -18,7 +16,7 @@ use layout::{Job, LAST_TICK, RECORD_LEN};
 
 // Now and the top, where the record is that of some.
 fn read_clock(bytes: &[u8; RECORD_LEN]) -> Option<(u64, u8)>
-    ensures { result ≡ (if is_clock bytes.now then Some (arrival_of bytes.now, work_of bytes.now) else None) }
+    ensures { result ≡ (if is_clock bytes.now then Some (now_in bytes.now, top_in bytes.now) else None) }
 {
     let numbers = Job::of_record(bytes);
     let now = numbers.arrival;

@@ -3,7 +3,8 @@ ghost use Rattle.std.specs.Prelude.{◌≡◌, ◌≤◌, length, All};
 ghost use Rattle.schedule.specs.Compressed.{NonEmpty};
 ghost use Rattle.schedule.specs.InForce.{horizon};
 ghost use Rattle.schedule.specs.Overload.{starts, first_overload};
-ghost use Rattle.book.specs.Book.{IsOpenAt, IsInOrder, last_tick};
+ghost use Rattle.book.specs.Book.{IsOpenAt, IsInOrder};
+ghost use Rattle.layout.specs.Jobs.{last_tick};
 ghost use Rattle.book.specs.Calls.{overload_fault};
 
 use super::demands::demands_of;

@@ -45,7 +45,7 @@ pub enum Response {
 }
 
 impl Request {
-    ghost use Rattle.record.specs.Contents.{content_of};
+    ghost use Rattle.record.specs.Content.{content_of};
     ghost use Rattle.life.specs.Requests.{request_of};
 
     /// What a record asks of a book. The label of an offer plays no part in it.

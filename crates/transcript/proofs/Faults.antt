@@ -12,7 +12,8 @@ use Rattle.book.specs.declared.fault.BookFault.TheVariants.{Field, TicketOpen, F
 use Rattle.book.specs.declared.fault.BookField.{BookField}
 use Rattle.layout.specs.declared.job.Job.{Job}
 use Rattle.book.specs.declared.tick.Entry.{Entry}
-use Rattle.book.specs.Book.{View, last_tick, book_with_jobs}
+use Rattle.book.specs.Book.{View, book_with_jobs}
+use Rattle.layout.specs.Jobs.{last_tick}
 use Rattle.book.specs.Outcomes.{Outcome, outcome}
 use Rattle.book.specs.Calls.{plain_outcome, field_fault, place_fault, early_fault, overload_fault_at, first_overload_of, overload_fault, book_with_job, offer_fault, strike_fault}
 use Rattle.book.specs.Jobs.{is_ticket_open, jobs_without}

@@ -2,7 +2,7 @@
 use Rattle.std.specs.Prelude.{ℕ, ◌*◌, zero, suc, Bool, false, List, take, replicate, Some, None, Ok, Err, codes, Option, Result}
 use Rattle.std.specs.Result.{result_map_both}
 use Rattle.layout.specs.declared.fault.ReadFault.{ReadFault}
-use Rattle.layout.specs.Content.{Content, label_in}
+use Rattle.layout.specs.Content.{Content, label_of}
 use Rattle.layout.specs.Label.{shown_label}
 use Rattle.layout.specs.Reading.{read_answer}
 use Rattle.book.specs.declared.fault.BookFault.TheVariants.{Read}
@@ -44,7 +44,7 @@ no_entries = replicate 64 (record { ticket = 0; units = 0 })
 
 -- the line of a record that the book does not refuse, by the response, where b is the book before
 abbrev pub line_for : View → Content → Response → PlainLine
-line_for b c (WasOffered t) = offered t (shown_label (label_in c) (codes "house"))
+line_for b c (WasOffered t) = offered t (shown_label (label_of c) (codes "house"))
 line_for b c (WasStruck t) = struck t
 line_for b c (Served s) = ticked b.now s.setting (entries_of (shares_of b))
 

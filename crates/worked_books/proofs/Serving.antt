@@ -2,7 +2,8 @@
 use Rattle.std.proofs.Common.{◌≡◌, ℕ, ◌==◌, false, List, length, drop, Ok, ◌∙◌, ap}
 use Rattle.std.proofs.Math.Seq.{take-append_seam}
 use Rattle.book.specs.declared.tick.Entry.{Entry}
-use Rattle.book.specs.Book.{View, last_tick}
+use Rattle.book.specs.Book.{View}
+use Rattle.layout.specs.Jobs.{last_tick}
 use Rattle.book.specs.Settings.{settings_of}
 use Rattle.book.specs.Ticks.{shares, shares_of, entries_of}
 use Rattle.worked_books.specs.Words.{TickServes}

@@ -11,14 +11,13 @@ use Rattle.std.proofs.Math.Seq.{take-append-add}
 use Rattle.std.proofs.lemmas.Slice.Eq.{bytes_eq-Decides}
 use Rattle.schedule.specs.InForce.{horizon}
 use Rattle.schedule.specs.Overload.{Searched}
-use Rattle.layout.specs.Layout.{arrival_of, work_of}
+use Rattle.book.specs.Images.{top_in, now_in, is_clock, book_in, first_wrong, length_fault, load_fault, load_outcome, clock_record, image, image_records, record_in, later_records, job_record, blank_record, first_wrong_later}
 use Rattle.layout.proofs.BigEndian.{number-bytes}
 use Rattle.layout.specs.declared.job.Job.{Job}
 use Rattle.book.specs.declared.fault.BookFault.TheVariants.{Short, Image}
 use Rattle.book.specs.Demands.{demands}
 use Rattle.book.specs.Book.{View, IsWellFormed, IsLawful, empty_book}
 use Rattle.book.specs.Calls.{plain_outcome, first_overload_of}
-use Rattle.book.specs.Images.{is_clock, book_in, first_wrong, length_fault, load_fault, load_outcome, clock_record, image, image_records, record_in, later_records, job_record, blank_record, first_wrong_later}
 use Rattle.layout.specs.Jobs.{IsSized}
 use Rattle.book.specs.Loads.{AreSized, Shows, CanBegin, IsFirstWrong, OnlyImages, LoadsBack}
 use Rattle.book.proofs.Images.RecordLists.{records, AllWhole, length-joined, begins_records, records_begin}
@@ -87,15 +86,15 @@ shows_from_holds list b few h = begun_from_parts 64 list b (omega arith) h.clock
 
 -- the record of now and the top of a well-formed book
 module _ (b : View) (w : IsWellFormed b) where
-  now_back : arrival_of (clock_record b.now b.top) ≡ b.now
+  now_back : now_in (clock_record b.now b.top) ≡ b.now
   now_back = number-bytes 6 b.now (omega (arith, w.in_time))
 
-  top_back : work_of (clock_record b.now b.top) ≡ b.top
+  top_back : top_in (clock_record b.now b.top) ≡ b.top
   top_back = number-bytes 2 b.top (omega (arith, w.top_within))
 
   clock_accepted : is_clock (clock_record b.now b.top) ≡ true
   clock_accepted =
-      and_from _ _ ((bytes_eq-Decides (clock_record b.now b.top) (clock_record (arrival_of (clock_record b.now b.top)) (work_of (clock_record b.now b.top)))).1 (λ i. clock_record (sym now_back i) (sym top_back i)))
+      and_from _ _ ((bytes_eq-Decides (clock_record b.now b.top) (clock_record (now_in (clock_record b.now b.top)) (top_in (clock_record b.now b.top)))).1 (λ i. clock_record (sym now_back i) (sym top_back i)))
       (subst (λ t. (nat_le 1 t && nat_le t 255) ≡ true) (sym top_back) (grind (arith, nat_tests, w.top_positive, w.top_within)))
 
   standing : Standing b.now b.jobs
@@ -105,16 +104,16 @@ module _ (b : View) (w : IsWellFormed b) where
     -- the records of such a book say the book
     book_back : (r : List ℕ) (rs : List (List ℕ)) (n : ℕ) → r ≡ clock_record b.now b.top → rs ≡ later_of b.jobs n → book_of r rs ≡ b
     book_back r rs n clock later =
-        let now : arrival_of r ≡ b.now = ap arrival_of clock ∙ now_back in
-        let top : work_of r ≡ b.top = ap work_of clock ∙ top_back in
+        let now : now_in r ≡ b.now = ap now_in clock ∙ now_back in
+        let top : top_in r ≡ b.top = ap top_in clock ∙ top_back in
         let jobs : jobs_of rs ≡ b.jobs = ap jobs_of later ∙ jobs_back b.now b.jobs n w.jobs_open fit in
         λ i. record { now = now i; top = top i; jobs = jobs i }
 
     -- and none of them is wrong
-    accepted_records : (r : List ℕ) (rs : List (List ℕ)) (n : ℕ) → r ≡ clock_record b.now b.top → rs ≡ later_of b.jobs n → cond (is_clock r) (first_wrong_later (arrival_of r) [] 1 rs) (Some 0) ≡ None
+    accepted_records : (r : List ℕ) (rs : List (List ℕ)) (n : ℕ) → r ≡ clock_record b.now b.top → rs ≡ later_of b.jobs n → cond (is_clock r) (first_wrong_later (now_in r) [] 1 rs) (Some 0) ≡ None
     accepted_records r rs n clock later =
-        let now : arrival_of r ≡ b.now = ap arrival_of clock ∙ now_back in
-        cond-true (is_clock r) (first_wrong_later (arrival_of r) [] 1 rs) (Some 0) (ap is_clock clock ∙ clock_accepted)
+        let now : now_in r ≡ b.now = ap now_in clock ∙ now_back in
+        cond-true (is_clock r) (first_wrong_later (now_in r) [] 1 rs) (Some 0) (ap is_clock clock ∙ clock_accepted)
         ∙ ((λ i. first_wrong_later (now i) [] 1 (later i)) ∙ none_wrong b.now [] b.jobs n 1 standing fit)
 
     book_shown : (list : List ℕ) → Shows list b → book_in list ≡ b
@@ -159,10 +158,10 @@ loads_back b rest lawful fit =
     }
 
 -- records of which none is wrong are those of the book that they say
-records_hold : (r : List ℕ) (rs : List (List ℕ)) → first_wrong_later (arrival_of r) [] 1 rs ≡ None → (rs ≡ later_of (jobs_of rs) (length rs - length (jobs_of rs))) × All IsSized (jobs_of rs)
+records_hold : (r : List ℕ) (rs : List (List ℕ)) → first_wrong_later (now_in r) [] 1 rs ≡ None → (rs ≡ later_of (jobs_of rs) (length rs - length (jobs_of rs))) × All IsSized (jobs_of rs)
 records_hold r rs e =
-    let s = shows_all (arrival_of r) [] 1 rs (none_standing (arrival_of r)) e in
-    let same : s.jobs ≡ jobs_of rs = sym (ap jobs_of s.form ∙ jobs_back (arrival_of r) s.jobs (length rs - length s.jobs) s.standing.open_at s.fit) in
+    let s = shows_all (now_in r) [] 1 rs (none_standing (now_in r)) e in
+    let same : s.jobs ≡ jobs_of rs = sym (ap jobs_of s.form ∙ jobs_back (now_in r) s.jobs (length rs - length s.jobs) s.standing.open_at s.fit) in
     (subst (λ js. rs ≡ later_of js (length rs - length js)) same s.form, subst (All IsSized) same s.fit)
 
 length-later_records : (list : List ℕ) → length (later_records list) ≡ 64
@@ -172,7 +171,7 @@ length-later_records list = length-map-range_with_len (record_in list) 1 64
 shows_book : (list : List ℕ) → first_wrong list ≡ None → Shows list (book_in list) × AreSized (book_in list)
 shows_book list e = go (is_clock (record_in list 0)) refl e
   where
-    go : (t : Bool) → is_clock (record_in list 0) ≡ t → cond t (first_wrong_later (arrival_of (record_in list 0)) [] 1 (later_records list)) (Some 0) ≡ None → Shows list (book_in list) × AreSized (book_in list)
+    go : (t : Bool) → is_clock (record_in list 0) ≡ t → cond t (first_wrong_later (now_in (record_in list 0)) [] 1 (later_records list)) (Some 0) ≡ None → Shows list (book_in list) × AreSized (book_in list)
     go false t none = absurd (cc)
     go true t none =
         let w = wellformed_in list e in
@@ -203,17 +202,17 @@ wrong_clock list f = record {
 }
 
 -- a later one is where the search says so
-wrong_at : (list : List ℕ) (i : ℕ) → i < 64 → is_clock (record_in list 0) ≡ true → first_wrong_later (arrival_of (record_in list 0)) [] 1 (later_records list) ≡ Some (1 + i) → IsFirstWrong (suc i) list
+wrong_at : (list : List ℕ) (i : ℕ) → i < 64 → is_clock (record_in list 0) ≡ true → first_wrong_later (now_in (record_in list 0)) [] 1 (later_records list) ≡ Some (1 + i) → IsFirstWrong (suc i) list
 wrong_at list i lt t e = record { before = before; none_with = none_with }
   where
     before : CanBegin (suc i) list
     before =
         let r = record_in list 0 in
         let c = clock_parts r t in
-        let s = begins (arrival_of r) [] 1 i (later_records list) (none_standing (arrival_of r)) e in
+        let s = begins (now_in r) [] 1 i (later_records list) (none_standing (now_in r)) e in
         let long : length (take i (later_records list)) ≡ i = length-take-le i (later_records list) (omega (arith, length-later_records list)) in
         let few : length s.jobs ≤ i = omega (arith, s.few, long) in
-        let b : View = record { now = arrival_of r; top = work_of r; jobs = s.jobs } in
+        let b : View = record { now = now_in r; top = top_in r; jobs = s.jobs } in
         let later = s.form ∙ (ap (λ n. later_of s.jobs (n - length s.jobs)) long ∙ sym (take-later_of i (64 - length s.jobs) s.jobs few (omega arith))) in
         (b, wellformed_jobs r s.jobs (omega arith) c s.standing, s.fit, begun_from_parts i list b (omega arith) c.form later)
 
@@ -222,17 +221,17 @@ wrong_at list i lt t e = record { before = before; none_with = none_with }
         let b = can.0 in
         let e2 : suc i + 1 ≡ suc (suc i) = omega arith in
         let parts = begun_parts (suc i) list b (omega arith) can.1.few (subst (λ n. take (24 * n) list ≡ take (24 * n) (image b)) e2 can.3) in
-        let now : arrival_of (record_in list 0) ≡ b.now = ap arrival_of parts.0 ∙ now_back b can.1 in
+        let now : now_in (record_in list 0) ≡ b.now = ap now_in parts.0 ∙ now_back b can.1 in
         never_wrong b.now [] b.jobs (64 - length b.jobs) 1 i (later_records list) (standing b can.1) can.2 parts.1 (ap (λ n. first_wrong_later n [] 1 (later_records list)) (sym now) ∙ e)
 
 -- the record that is named is the first wrong one, and one of the 65
 first_wrong : (list : List ℕ) (k : ℕ) → first_wrong list ≡ Some k → IsFirstWrong k list × (k < 65)
 first_wrong list k e = go (is_clock (record_in list 0)) refl e
   where
-    go : (t : Bool) → is_clock (record_in list 0) ≡ t → cond t (first_wrong_later (arrival_of (record_in list 0)) [] 1 (later_records list)) (Some 0) ≡ Some k → IsFirstWrong k list × (k < 65)
+    go : (t : Bool) → is_clock (record_in list 0) ≡ t → cond t (first_wrong_later (now_in (record_in list 0)) [] 1 (later_records list)) (Some 0) ≡ Some k → IsFirstWrong k list × (k < 65)
     go false t s = let same : 0 ≡ k = cc in (subst (λ n. IsFirstWrong n list) same (wrong_clock list t), omega arith)
     go true t s =
-        let found = within (arrival_of (record_in list 0)) [] 1 (later_records list) k s in
+        let found = within (now_in (record_in list 0)) [] 1 (later_records list) k s in
         let i = found.0 in
         let low : i < 64 = omega (arith, found.1, length-later_records list) in
         let same : suc i ≡ k = omega (arith, found.2) in

@@ -17,7 +17,7 @@ use Rattle.schedule.specs.InForce.{horizon}
 use Rattle.schedule.specs.Overload.{Searched}
 use Rattle.schedule.proofs.Theory.{theory}
 use Rattle.layout.specs.BigEndian.{number, bytes}
-use Rattle.layout.specs.Layout.{arrival_of, work_of}
+use Rattle.book.specs.Images.{top_in, now_in, clock_record, job_record, blank_record, record_in, later_records, is_job_record, book_in, can_be_open, is_clock, is_next_job, first_not_blank, first_wrong_later, first_wrong, overload_record, length_fault, load_fault, load_outcome}
 use Rattle.layout.specs.declared.job.Job.{Job}
 use Rattle.book.specs.declared.fault.BookFault.TheVariants.{Image}
 use Rattle.book.specs.Jobs.{is_before, is_ticket_open}
@@ -25,7 +25,6 @@ use Rattle.book.specs.Demands.{demands}
 use Rattle.book.specs.Book.{View, IsOpenAt, IsInOrder, IsWellFormed, IsLawful}
 use Rattle.book.specs.Calls.{plain_outcome, first_overload_of}
 use Rattle.layout.specs.Jobs.{job_in}
-use Rattle.book.specs.Images.{clock_record, job_record, blank_record, record_in, later_records, is_job_record, book_in, can_be_open, is_clock, is_next_job, first_not_blank, first_wrong_later, first_wrong, overload_record, length_fault, load_fault, load_outcome}
 use Rattle.book.proofs.DemandFacts.{sound-demands}
 use Rattle.book.proofs.Offering.{others}
 
@@ -126,30 +125,30 @@ standing_later now before k (r ∷ rs) s e = elim (cases_Bool (is_next_job now b
 
 -- a record of now and the top
 pub record Clocked (r : List ℕ) : Type 0 where
-  pub form : r ≡ clock_record (arrival_of r) (work_of r)
-  pub positive : 1 ≤ work_of r
-  pub within : work_of r ≤ 255
+  pub form : r ≡ clock_record (now_in r) (top_in r)
+  pub positive : 1 ≤ top_in r
+  pub within : top_in r ≤ 255
 
 -- what its test says
 pub clock_parts : (r : List ℕ) → is_clock r ≡ true → Clocked r
 clock_parts r e =
-    let form = and_parts (bytes_eq r (clock_record (arrival_of r) (work_of r))) _ e in
-    record { form = (bytes_eq-Decides r (clock_record (arrival_of r) (work_of r))).0 form.0; positive = grind (arith, nat_tests, form.1); within = grind (arith, nat_tests, form.1) }
+    let form = and_parts (bytes_eq r (clock_record (now_in r) (top_in r))) _ e in
+    record { form = (bytes_eq-Decides r (clock_record (now_in r) (top_in r))).0 form.0; positive = grind (arith, nat_tests, form.1); within = grind (arith, nat_tests, form.1) }
 
 -- the book that records say
 abbrev pub book_of : List ℕ → List (List ℕ) → View
-book_of r rs = record { now = arrival_of r; top = work_of r; jobs = jobs_of rs }
+book_of r rs = record { now = now_in r; top = top_in r; jobs = jobs_of rs }
 
 -- no jobs
 pub none_standing : (now : ℕ) → Standing now []
 none_standing now = record { apart = λ a b d lt le. absurd (omega arith); order = λ a b d lt le. absurd (omega arith); open_at = λ k d lt. absurd (omega arith) }
 
 -- a record of now and the top, and at most 64 jobs that can be open together
-pub wellformed_jobs : (r : List ℕ) (js : List Job) → length js ≤ 64 → Clocked r → Standing (arrival_of r) js → IsWellFormed (record { now = arrival_of r; top = work_of r; jobs = js })
+pub wellformed_jobs : (r : List ℕ) (js : List Job) → length js ≤ 64 → Clocked r → Standing (now_in r) js → IsWellFormed (record { now = now_in r; top = top_in r; jobs = js })
 wellformed_jobs r js few c s =
-    let now : arrival_of r ≡ number (bytes 6 (arrival_of r)) = ap arrival_of c.form in
+    let now : now_in r ≡ number (bytes 6 (now_in r)) = ap now_in c.form in
     record {
-      in_time = omega (arith, now, bytes_fit 6 (arrival_of r));
+      in_time = omega (arith, now, bytes_fit 6 (now_in r));
       top_positive = c.positive;
       top_within = c.within;
       few = few;
@@ -159,14 +158,14 @@ wellformed_jobs r js few c s =
     }
 
 -- where no record is wrong, the book that they say is well-formed
-pub wellformed_records : (r : List ℕ) (rs : List (List ℕ)) → length rs ≤ 64 → is_clock r ≡ true → first_wrong_later (arrival_of r) [] 1 rs ≡ None → IsWellFormed (book_of r rs)
-wellformed_records r rs few t e = wellformed_jobs r (jobs_of rs) (omega (arith, jobs_of_few rs)) (clock_parts r t) (standing_later (arrival_of r) [] 1 rs (none_standing (arrival_of r)) e)
+pub wellformed_records : (r : List ℕ) (rs : List (List ℕ)) → length rs ≤ 64 → is_clock r ≡ true → first_wrong_later (now_in r) [] 1 rs ≡ None → IsWellFormed (book_of r rs)
+wellformed_records r rs few t e = wellformed_jobs r (jobs_of rs) (omega (arith, jobs_of_few rs)) (clock_parts r t) (standing_later (now_in r) [] 1 rs (none_standing (now_in r)) e)
 
 -- and so is that of an image
 pub wellformed_in : (list : List ℕ) → first_wrong list ≡ None → IsWellFormed (book_in list)
 wellformed_in list e = go (is_clock (record_in list 0)) refl e
   where
-    go : (t : Bool) → is_clock (record_in list 0) ≡ t → cond t (first_wrong_later (arrival_of (record_in list 0)) [] 1 (later_records list)) (Some 0) ≡ None → IsWellFormed (book_in list)
+    go : (t : Bool) → is_clock (record_in list 0) ≡ t → cond t (first_wrong_later (now_in (record_in list 0)) [] 1 (later_records list)) (Some 0) ≡ None → IsWellFormed (book_in list)
     go true t none = wellformed_records (record_in list 0) (later_records list) (omega (arith, length-map-range_with_len (record_in list) 1 64)) t none
     go false t none = absurd (cc)
 

@@ -9,14 +9,13 @@ use Rattle.std.proofs.lemmas.Bool.{cases_Bool, cond-true, cond-false}
 use Rattle.std.proofs.lemmas.Bool.Decides.{nat_tests}
 use Rattle.std.proofs.lemmas.List.{append_assoc, append-nil, drop-drop, length-append, length-take}
 use Rattle.std.proofs.lemmas.List.FromFn.{take-map-range_with_len}
-use Rattle.layout.specs.Layout.{arrival_of, work_of}
+use Rattle.book.specs.Images.{top_in, now_in, blank_record, record_in, later_records, is_job_record, book_in, is_clock, is_next_job, first_not_blank, first_wrong_later, first_wrong, overload_record, load_fault, load_outcome}
 use Rattle.layout.specs.declared.job.Job.{Job}
 use Rattle.book.specs.declared.fault.BookFault.{BookFault}
 use Rattle.book.specs.declared.fault.BookFault.TheVariants.{Short, Image}
 use Rattle.book.specs.Book.{View, IsWellFormed, IsLawful}
 use Rattle.book.specs.Calls.{first_overload_of, overload_fault_at, overload_fault, plain_outcome}
 use Rattle.layout.specs.Jobs.{job_in}
-use Rattle.book.specs.Images.{blank_record, record_in, later_records, is_job_record, book_in, is_clock, is_next_job, first_not_blank, first_wrong_later, first_wrong, overload_record, load_fault, load_outcome}
 use Rattle.book.specs.Loads.{OnlyImages}
 use Rattle.book.specs.Reading.{leading_jobs}
 use Rattle.book.specs.Outcomes.{Outcome, ok_unless}
@@ -183,7 +182,7 @@ read_by list long = let enough : nat_lt (length list) 1560 ≡ false = grind (ar
 
 -- the answers of a test of the first record
 abbrev pub clock_answer : List ℕ → Option (ℕ × ℕ)
-clock_answer r = if is_clock r then Some (arrival_of r, work_of r) else None
+clock_answer r = if is_clock r then Some (now_in r, top_in r) else None
 
 -- the answer for records after it
 abbrev pub jobs_answer : ℕ → List (List ℕ) → Result (List Job) BookFault
@@ -206,17 +205,17 @@ module _ (list : List ℕ) (long : 1560 ≤ length list) (rs : List (List ℕ)) 
 
   pub read_no_clock : None ≡ clock_answer (get_or rs 0 []) → Err (Image 0) ≡ reading list
   read_no_clock e =
-      let no : is_clock (record_in list 0) ≡ false = subst (λ r. is_clock r ≡ false) first_record (none_if (is_clock (get_or rs 0 [])) (arrival_of (get_or rs 0 []), work_of (get_or rs 0 [])) e) in
-      let wrong : first_wrong list ≡ Some 0 = cond-false (is_clock (record_in list 0)) (first_wrong_later (arrival_of (record_in list 0)) [] 1 (later_records list)) (Some 0) no in
+      let no : is_clock (record_in list 0) ≡ false = subst (λ r. is_clock r ≡ false) first_record (none_if (is_clock (get_or rs 0 [])) (now_in (get_or rs 0 []), top_in (get_or rs 0 [])) e) in
+      let wrong : first_wrong list ≡ Some 0 = cond-false (is_clock (record_in list 0)) (first_wrong_later (now_in (record_in list 0)) [] 1 (later_records list)) (Some 0) no in
       sym (read_by list long ∙ ap (λ o. ok_unless (option_map Image (option_or o (overload_record (book_in list)))) (book_in list)) wrong)
 
   module _ (now top : ℕ) (said : Some (now, top) ≡ clock_answer (get_or rs 0 [])) where
-    clock : (is_clock (record_in list 0) ≡ true) × (◌≡◌ {A = ℕ × ℕ} (now, top) (arrival_of (record_in list 0), work_of (record_in list 0)))
-    clock = some_if (is_clock (record_in list 0)) (arrival_of (record_in list 0), work_of (record_in list 0)) (now, top) (said ∙ ap clock_answer first_record)
+    clock : (is_clock (record_in list 0) ≡ true) × (◌≡◌ {A = ℕ × ℕ} (now, top) (now_in (record_in list 0), top_in (record_in list 0)))
+    clock = some_if (is_clock (record_in list 0)) (now_in (record_in list 0), top_in (record_in list 0)) (now, top) (said ∙ ap clock_answer first_record)
 
     wrong_by : first_wrong list ≡ first_wrong_later now [] 1 (after_first rs)
     wrong_by =
-        cond-true (is_clock (record_in list 0)) (first_wrong_later (arrival_of (record_in list 0)) [] 1 (later_records list)) (Some 0) clock.0
+        cond-true (is_clock (record_in list 0)) (first_wrong_later (now_in (record_in list 0)) [] 1 (later_records list)) (Some 0) clock.0
         ∙ (λ i. first_wrong_later (sym clock.1 i).0 [] 1 (sym later i))
 
     pub read_wrong : (fault : BookFault) → Err fault ≡ jobs_answer now (after_first rs) → Err fault ≡ reading list

@@ -5,7 +5,8 @@ use Rattle.std.specs.List.{filter, sum_by}
 use Rattle.schedule.specs.InForce.{horizon}
 use Rattle.schedule.proofs.Theory.{theory}
 use Rattle.book.specs.declared.tick.Entry.{Entry}
-use Rattle.book.specs.Book.{View, last_tick}
+use Rattle.book.specs.Book.{View}
+use Rattle.layout.specs.Jobs.{last_tick}
 use Rattle.book.specs.Settings.{settings_of}
 use Rattle.book.specs.Lists.{list_with}
 use Rattle.book.specs.Ticks.{has_work}
