@@ -19,8 +19,8 @@ loop-next-preserved c =
     let same = same_answer q c.least.ensures.said.0 (slots_of c.take.new.self) c.take.result c.least.ensures.said.1.leaves c.unwrap-next.ensures c.take.ensures.said.leaves in
     dropped (taken q c.requires.hull c.loop-next.ticks.fits c.loop-next.invariant c.take.ensures.said.leaves same) (omega (arith, c.from.ensures))
 
-pub index-requires : goal.index-requires
-index-requires c =
+pub allocate-requires : goal.allocate-requires
+allocate-requires c =
     let t = taken (slots_of c.loop-next.ticks) c.requires.hull c.loop-next.ticks.fits c.loop-next.invariant c.least.ensures.said.1.leaves c.unwrap-next.ensures in
     record {
       window = search rules;
@@ -36,14 +36,14 @@ returns-then-tick-self c =
     let same = same_answer q c.least.ensures.said.0 said.left c.replace_least.result c.least.ensures.said.1.leaves c.unwrap-next.ensures said.taken.leaves in
     let t = taken q c.requires.hull c.loop-next.ticks.fits c.loop-next.invariant said.taken.leaves same in
     let late : c.args.self.now.start ≤ c.unwrap-next.result.tick = omega (arith, c.from.ensures) in
-    let index = λ (u : ℕ). place_at c.args.self.now.from u (state_of c.args.plan.now) in
-    let placed = c.index.ensures ∙ ap index c.from-tick.ensures in
+    let with_unit = λ (u : ℕ). place_at c.args.self.now.from u (state_of c.args.plan.now) in
+    let placed = c.allocate.ensures ∙ ap with_unit c.from-tick.ensures in
     let added = refill_added _ said.left (slots_of c.replace_least.new.self) c.replace_least.result _ said.refilled same in
     record {
-      placed = placed ∙ ap index (is_spot t late);
+      placed = placed ∙ ap with_unit (is_spot t late);
       hull = record {
         start = c.hull_start-self.ensures;
-        queued = subst (λ lo. IsQueued (state_of c.index.new.self).settings lo c.args.self.now.to (elements_of (slots_of c.replace_least.new.self))) (sym c.hull_start-self.ensures) (queued_risen t late placed added);
+        queued = subst (λ lo. IsQueued (state_of c.allocate.new.self).settings lo c.args.self.now.to (elements_of (slots_of c.replace_least.new.self))) (sym c.hull_start-self.ensures) (queued_risen t late placed added);
       };
       window = (refl, refl);
     }
@@ -55,11 +55,11 @@ returns-else-tick-self c =
     let same = same_answer q c.least.ensures.said.0 said.left c.replace_least.result c.least.ensures.said.1.leaves c.unwrap-next.ensures said.taken.leaves in
     let t = taken q c.requires.hull c.loop-next.ticks.fits c.loop-next.invariant said.taken.leaves same in
     let late : c.args.self.now.start ≤ c.unwrap-next.result.tick = omega (arith, c.from.ensures) in
-    let index = λ (u : ℕ). place_at c.args.self.now.from u (state_of c.args.plan.now) in
-    let placed = c.index.ensures ∙ ap index c.from-tick.ensures in
+    let with_unit = λ (u : ℕ). place_at c.args.self.now.from u (state_of c.args.plan.now) in
+    let placed = c.allocate.ensures ∙ ap with_unit c.from-tick.ensures in
     let added = refill_added _ said.left (slots_of c.replace_least.new.self) c.replace_least.result _ said.refilled same in
     record {
-      placed = placed ∙ ap index (is_spot t late);
+      placed = placed ∙ ap with_unit (is_spot t late);
       hull = record { start = start_stays t late placed added (omega (arith, c.from-tick.ensures)); queued = queued_after t late placed added };
       window = (refl, refl);
     }

@@ -1,6 +1,6 @@
 use Rattle.std.proofs.Common.{rules}
 use Rattle.planner.proofs.States.{placed, raised, lowered}
-use Rattle.planner.proofs.plan.Plan.index.Goals as goal
+use Rattle.planner.proofs.plan.Plan.allocate.Goals as goal
 
 pub returns-then-from-tick : goal.returns-then-from-tick
 returns-then-from-tick c = placed c.args.self.now c.args.from c.args.tick _ (search rules)
