@@ -8,7 +8,7 @@ use super::heap::Queue;
 use super::order::Rank;
 
 /// A job whose window has begun.
-#[derive(Clone, Copy, PartialEq, Eq, Debug)]
+#[derive(Clone, Copy, PartialEq, Eq, Debug, Default)]
 pub struct ReadyJob {
     pub deadline: u64,
     pub ticket: u16,
