@@ -4,12 +4,12 @@ use Rattle.std.proofs.Common.{ap, sym, arith}
 use Rattle.std.proofs.lemmas.Bool.{cond_above}
 use Rattle.std.proofs.lemmas.Bool.Decides.{nat_tests}
 use Rattle.power.specs.Laws.{Lawful}
-use Rattle.power.specs.Breaks.{breaks_at, first_break}
+use Rattle.power.specs.Breaks.{is_break_at, first_break}
 use Rattle.power.specs.BreakLaws.{found, keeps, lawful}
 use Rattle.power.specs.Loading.{list_draw, break_answer, load_answer, numbers_after, Accepts, NamesLeast}
 
 -- draws that break a law at s do not keep both up to s
-breaks : (D : ℕ → ℕ) (s : ℕ) → 1 ≤ s → breaks_at D s ≡ true → Lawful s D → ⊥
+breaks : (D : ℕ → ℕ) (s : ℕ) → 1 ≤ s → is_break_at D s ≡ true → Lawful s D → ⊥
 breaks D s h e l = grind (arith, nat_tests, l.0 s h (omega arith))
 
 -- a list is accepted just where it can be loaded

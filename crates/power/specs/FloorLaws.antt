@@ -4,7 +4,8 @@ use Rattle.std.proofs.Common.{arith}
 use Rattle.power.specs.Laws.{Rising, Convex}
 use Rattle.power.specs.Draws.{floor_draw}
 
-pub floor_bounded : (D : ℕ → ℕ) (floor : ℕ) → floor ≤ 255 → ((s : ℕ) → s ≤ 255 → D s ≤ 4294967295) → (s : ℕ) → s ≤ 255 → floor_draw D floor s ≤ 4294967295
+pub floor_bounded : (D : ℕ → ℕ) (floor : ℕ) → floor ≤ 255 → ((s : ℕ) → s ≤ 255 → D s ≤ 4294967295)
+    → (s : ℕ) → s ≤ 255 → floor_draw D floor s ≤ 4294967295
 floor_bounded D floor b bounded s h = bounded (max s floor) (omega arith)
 
 pub floor_rising : (D : ℕ → ℕ) (floor : ℕ) → Rising 255 D → Rising 255 (floor_draw D floor)

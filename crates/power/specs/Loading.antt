@@ -1,5 +1,6 @@
 -- What a measured model answers to a list of draws, and the numbers that it holds then.
-use Rattle.std.specs.Prelude.{◌≡◌, ℕ, ◌-◌, ◌≤◌, if◌then◌else◌, List, length, take, Some, None, Ok, Err, Option, Result, is_ok, nat_lt}
+use Rattle.std.specs.Prelude.{◌≡◌, ℕ, ◌-◌, ◌≤◌, if◌then◌else◌, List, length, take, Some, None, Ok, Err, Option}
+use Rattle.std.specs.Prelude.{Result, is_ok, nat_lt}
 use Rattle.power.specs.declared.fault.PowerFault.{PowerFault}
 use Rattle.power.specs.declared.fault.PowerFault.TheVariants.{Field, Short, Broken}
 use Rattle.power.specs.Laws.{Lawful}

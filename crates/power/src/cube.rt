@@ -14,7 +14,10 @@ use super::model::PowerModel;
 const MAX_FIXED: u32 = 66_000_000;
 
 /// A model whose draw is a fixed number, and a factor times the cube of the setting.
-// No `Model`: its value would have to be these fields with what always holds of them, so that the laws can be proved of it.
+///
+/// `fixed` is what it draws at 0, at most 66,000,000; `factor` is what each unit of the cube adds, at most 255.
+// No `Model`: its value would have to be these fields with what always holds of them, so that the laws can be proved
+// of it.
 #[derive(Clone, Copy, PartialEq, Eq, Debug)]
 pub struct Cube {
     fixed: u32,
@@ -25,7 +28,15 @@ pub struct Cube {
 impl Cube {
     /// A model with this fixed draw and this factor.
     ///
-    /// Refuses a fixed draw above 66,000,000 with [`PowerFault::Field`].
+    /// # Refusals
+    /// - `PowerFault::Field(CubeField::FixedDraw)`: the fixed draw is above 66,000,000.
+    ///
+    /// ```text
+    /// // power_tests: examples::of_a_cube_model
+    /// let model = Cube::new(10, 2)?;
+    /// model.draw(3);   // 64
+    /// Cube::new(66_000_001, 2);   // Err(PowerFault::Field(CubeField::FixedDraw))
+    /// ```
     pub fn new(fixed: u32, factor: u8) -> Result<Cube, PowerFault>
         ensures { result_map_both (λ model. (model.fixed, model.factor)) (λ fault. fault) result ≡ new_cube fixed factor }
     {

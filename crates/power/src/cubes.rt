@@ -4,10 +4,10 @@ ghost use Rattle.power.specs.Laws.{Lawful};
 ghost use Rattle.power.specs.Draws.{draw_at, cube};
 ghost use Rattle.power.specs.Cubes.{cube_table};
 
-use super::model::SETTINGS;
+use super::model::SETTING_VALUES;
 
 // The cubes of 0 to 255.
-const CUBES: [u32; SETTINGS] = [
+const CUBES: [u32; SETTING_VALUES] = [
     0, 1, 8, 27, 64, 125, 216, 343, 512, 729, 1000, 1331, 1728, 2197, 2744, 3375, 4096, 4913, 5832,
     6859, 8000, 9261, 10648, 12167, 13824, 15625, 17576, 19683, 21952, 24389, 27000, 29791, 32768,
     35937, 39304, 42875, 46656, 50653, 54872, 59319, 64000, 68921, 74088, 79507, 85184, 91125,
@@ -35,8 +35,9 @@ const CUBES: [u32; SETTINGS] = [
 ];
 
 // The table, with its rule, that the entry s is the cube of s, and with its laws, that it never falls and is convex.
-// Each is one test over the whole table, which the check computes.
-fn cubes() -> &'static [u32; SETTINGS]
+// The check computes two tests over all settings: that the table is that of the cubes, and that the cubes keep the
+// laws.
+fn cubes() -> &'static [u32; SETTING_VALUES]
     ensures rule { result.now ≡ cube_table }
     ensures laws { Lawful 255 (draw_at result.now) }
 {

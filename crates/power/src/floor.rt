@@ -6,7 +6,10 @@ ghost use Rattle.power.specs.FloorLaws.{floor_bounded, floor_rising, floor_conve
 use super::model::PowerModel;
 
 /// A model over another: its draw is the lower model's at the greater of the setting and the floor.
-// No `Model`: its value would have to be these fields with what always holds of them, so that the laws can be proved of it.
+///
+/// `lower` is the model below, and `floor` the least setting that it is asked for.
+// No `Model`: its value would have to be these fields with what always holds of them, so that the laws can be proved
+// of it.
 #[derive(PartialEq, Eq, Debug, Drop)]
 pub struct Floor<M> {
     lower: M,
@@ -15,7 +18,14 @@ pub struct Floor<M> {
 }
 
 impl<M> Floor<M> {
-    /// A model over the lower one with this floor. Every floor is accepted.
+    /// A model over the lower one with this floor. It never refuses: a floor is any setting from 0 to 255.
+    ///
+    /// ```text
+    /// // power_tests: examples::of_a_floor
+    /// let model = Floor::new(Cube::new(0, 1)?, 2);
+    /// model.draw(0);   // 8, as at 2
+    /// model.draw(3);   // 27
+    /// ```
     pub fn new(lower: M, floor: u8) -> Floor<M>
         ensures lower { result.lower ≡ lower }
         ensures floor { result.floor ≡ floor }

@@ -1,7 +1,7 @@
 //! Power models: what a processor draws at each clock setting.
 //!
-//! A model is 256 numbers D(0) to D(255), each at most 4,294,967,295. Asked for the draw of a setting s it answers D(s);
-//! it never refuses, and stays the same. D never falls as s rises, and D(s) + D(s - 2) is at least 2 D(s - 1).
+//! A model is 256 numbers D(0) to D(255), each at most 4,294,967,295. Asked for the draw of a setting s it answers
+//! D(s); it never refuses, and stays the same. D never falls as s rises, and D(s) + D(s - 2) is at least 2 D(s - 1).
 //!
 //! | model | its draw at s |
 //! |---|---|
@@ -18,11 +18,9 @@ mod fault;
 mod floor;
 mod measured;
 mod model;
-mod sum;
 
 pub use cube::Cube;
 pub use fault::{CubeField, PowerFault};
 pub use floor::Floor;
 pub use measured::Measured;
-pub use model::{PowerModel, SETTINGS};
-pub use sum::total_draw;
+pub use model::{PowerModel, SETTING_VALUES};

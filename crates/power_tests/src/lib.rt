@@ -4,12 +4,12 @@
 #[cfg(test)]
 mod cube;
 #[cfg(test)]
+mod examples;
+#[cfg(test)]
 mod floor;
 #[cfg(test)]
 mod loading;
 #[cfg(test)]
 mod samples;
-#[cfg(test)]
-mod sum;
 #[cfg(test)]
 mod telling;

@@ -1,6 +1,5 @@
-// Models, lists of draws, and lists of settings.
+// Models and lists of draws.
 use power::{Cube, PowerModel};
-use std::array;
 use std::process::Abort;
 use std::test::Fail;
 
@@ -20,9 +19,4 @@ pub(super) fn counted() -> [u32; 300] {
         *draw = setting as u32;
     }
     list
-}
-
-// The settings 0 to 255, one of each.
-pub(super) fn each_once() -> [u8; 256] {
-    array::from_fn(|index| index as u8)
 }

@@ -1,7 +1,7 @@
 // The power models that bill.
 use anyhow::anyhow;
 use book::Book;
-use power::{Cube, Floor, Measured, PowerFault, SETTINGS};
+use power::{Cube, Floor, Measured, PowerFault, SETTING_VALUES};
 use refusal::Refusal;
 
 fn refused(fault: PowerFault) -> anyhow::Error {
@@ -10,7 +10,7 @@ fn refused(fault: PowerFault) -> anyhow::Error {
 
 // A model with the draws 0, 1, 3, 6 and so on.
 fn measured() -> Result<Measured, PowerFault> {
-    let mut draws = [0; SETTINGS];
+    let mut draws = [0; SETTING_VALUES];
     let mut draw = 0u32;
     for (place, setting) in draws.iter_mut().zip(0..256u32) {
         draw = draw.saturating_add(setting);

@@ -1,17 +1,15 @@
 -- What a tick does that serves the first setting in force, the earliest deadline first.
-use Rattle.std.proofs.Common.{◌≡◌, ℕ, suc, ◌<◌, ◌≤◌, cond, List, [], ◌∷◌, sum_by, sum, refl, arith}
+use Rattle.std.proofs.Common.{◌≡◌, ℕ, suc, ◌<◌, ◌≤◌, List, sum, arith}
 use Rattle.std.specs.List.Sorted.{IsPermutation}
 use Rattle.std.proofs.ByRecursion.{All-weaker, all_shuffled}
 use Rattle.std.proofs.lemmas.List.Elements.{All-from_recursion}
-use Rattle.std.proofs.lemmas.List.Sorted.{sum_by-IsPermutation}
-use Rattle.std.proofs.lemmas.List.Sums.{sum_by-cons}
 use Rattle.schedule.specs.Demands.{Demand, Windowed, Sound, Sorted}
-use Rattle.schedule.specs.Work.{inside, work}
 use Rattle.schedule.specs.Overload.{NoneOverloaded}
 use Rattle.schedule.specs.Edf.{serve, next}
 use Rattle.schedule.specs.Settled.{Settled}
 use Rattle.schedule.specs.InForce.{horizon, Same, settings_in_force}
 use Rattle.schedule.specs.Theory.{Ticked}
+use Rattle.schedule.proofs.WorkLaws.{work_any_order}
 use Rattle.schedule.proofs.EdfStep.{fits_next, sound_next, serve_all, sorted_next, due_none_left}
 use Rattle.schedule.proofs.OverloadLaws.{none_overloaded_longer}
 use Rattle.schedule.proofs.Hall.{fits_does, none_overloaded_iff}
@@ -55,14 +53,9 @@ ticked ds sorted sound =
       sorted = sorted_next (s 0) ds sorted;
     }
 
--- the work of an interval is a sum over the demands
-work_sum : (ds : List Demand) (a b : ℕ) → work ds a b ≡ sum_by (λ d. cond (inside a b d) d.units 0) ds
-work_sum [] a b = refl
-work_sum (d ∷ ds) a b = omega (arith, work_sum ds a b, sum_by-cons (λ e. cond (inside a b e) e.units 0) d ds)
-
--- in which their order counts for nothing
+-- and in any order of the demands
 pub any_order : (ds es : List Demand) → Sound horizon ds → IsPermutation ds es → Sorted es → Same horizon (settings_in_force es) (settings_in_force ds) × Ticked es
 any_order ds es sound shuffled sorted = (
-  in_force_by_work es ds (λ a b _ _. omega (arith, work_sum ds a b, work_sum es a b, sum_by-IsPermutation (λ d. cond (inside a b d) d.units 0) ds es shuffled)),
+  in_force_by_work es ds (λ a b _ _. work_any_order ds es a b shuffled),
   ticked es sorted (all_shuffled (Windowed horizon) ds es shuffled sound),
 )

@@ -1,5 +1,7 @@
--- What the definitions answer for a small book, by numbers, to be held against a search through all lists and sharings.
-use Rattle.std.specs.Prelude.{ℕ, zero, suc, ◌+◌, ◌-◌, ◌*◌, max, Bool, cond, ◌&&◌, List, [], ◌∷◌, ◌++◌, map, Option, Some, None, is_some, ◌==◌}
+-- What the definitions answer for a small book, by numbers, to be held against a search through all lists and
+-- sharings.
+use Rattle.std.specs.Prelude.{ℕ, zero, suc, ◌+◌, ◌-◌, ◌*◌, max, Bool, cond, ◌&&◌, List, [], ◌∷◌, ◌++◌, map}
+use Rattle.std.specs.Prelude.{Option, Some, None, is_some, ◌==◌}
 use Rattle.schedule.specs.Sums.{upto}
 use Rattle.schedule.specs.Demands.{Demand, total}
 use Rattle.schedule.specs.Work.{work}

@@ -16,10 +16,12 @@ extent p = p.high - p.low
 abbrev pub pair_work : List Demand → Pair → ℕ
 pair_work ws p = work ws p.low p.high
 
--- p with work x goes before q with work y: x / length is greater as an exact fraction; or equal, and then p has the lesser u,
--- or the same u and no lesser v
+-- p with work x goes before q with work y: x / length is greater as an exact fraction; or equal, and then p has the
+-- lesser u, or the same u and no lesser v
 abbrev pub Leads : ℕ → Pair → ℕ → Pair → Type 0
-Leads x p y q = (y * extent p < x * extent q) ⊎ ((y * extent p ≡ x * extent q) × ((p.low < q.low) ⊎ ((p.low ≡ q.low) × (q.high ≤ p.high))))
+Leads x p y q =
+    (y * extent p < x * extent q)
+    ⊎ ((y * extent p ≡ x * extent q) × ((p.low < q.low) ⊎ ((p.low ≡ q.low) × (q.high ≤ p.high))))
 
 -- the best pair of the windows: it goes before every pair u < v
 pub record Best (ws : List Demand) (p : Pair) : Type 0 where

@@ -21,10 +21,12 @@ still_free free p t = free t && not (between p (compressed free t))
 abbrev pub unplaced : (ℕ → ℕ) → Pair → List Demand → List Demand
 unplaced time p ds = filter (λ d. not (inside p.low p.high (seen time d))) ds
 
--- ps are the pairs of the rounds: each is the best of the demands not yet placed, and after the last round none is left
+-- ps are the pairs of the rounds: each is the best of the demands not yet placed, and after the last round none is
+-- left
 abbrev pub Rounds : (ℕ → Bool) → List Demand → List Pair → Type 0
 Rounds free ds [] = ds ≡ []
-Rounds free ds (p ∷ ps) = (0 < length ds) × Best (windows free ds) p × Rounds (still_free free p) (unplaced (compressed free) p ds) ps
+Rounds free ds (p ∷ ps) =
+    (0 < length ds) × Best (windows free ds) p × Rounds (still_free free p) (unplaced (compressed free) p ds) ps
 
 -- the pairs of the rounds, as they are found, of at most `most` rounds
 abbrev pub pairs : ℕ → (ℕ → Bool) → List Demand → List Pair

@@ -1,5 +1,6 @@
 -- The theory of settings: every law in one record, each for all that it names.
-use Rattle.std.specs.Prelude.{◌≡◌, ℕ, ◌*◌, ◌<◌, ◌≤◌, true, false, ◌↔◌, List, [], ◌∷◌, length, All, sum, Decides, slice_index_or}
+use Rattle.std.specs.Prelude.{◌≡◌, ℕ, ◌*◌, ◌<◌, ◌≤◌, true, false, ◌↔◌, List, [], ◌∷◌, length, All, sum, Decides}
+use Rattle.std.specs.Prelude.{slice_index_or}
 use Rattle.std.specs.List.Sorted.{IsPermutation}
 use Rattle.power.specs.Laws.{Rising, Convex}
 use Rattle.schedule.specs.Sums.{upto}
@@ -36,7 +37,8 @@ pub record Enough : Type 0 where
   -- a list does the open work just if no interval holds more work than the list does in it
   pub does : (n : ℕ) (ds : List Demand) (s : ℕ → ℕ) → Sound n ds → Does n ds s ↔ Fits n ds s
   -- it is exact just if, besides, its total is all the work
-  pub exact : (n : ℕ) (ds : List Demand) (s : ℕ → ℕ) → Sound n ds → Exact n ds s ↔ (Fits n ds s × (upto s n ≡ total ds))
+  pub exact : (n : ℕ) (ds : List Demand) (s : ℕ → ℕ) → Sound n ds
+      → Exact n ds s ↔ (Fits n ds s × (upto s n ≡ total ds))
   -- whether no interval holds more work than the list does in it, a test of all intervals tells
   pub tested : (n : ℕ) (ds : List Demand) (s : ℕ → ℕ) → Decides (is_fit n ds s) (Fits n ds s)
   -- no interval is overloaded just if some list up to the top does the open work
@@ -53,20 +55,24 @@ pub record Standing : Type 0 where
   -- the function gives the settings in force
   pub in_force : (ds : List Demand) → Sound horizon ds → InForce horizon ds (settings_in_force ds)
   -- and no other list is in force
-  pub no_other : (ds : List Demand) (s : ℕ → ℕ) → Sound horizon ds → InForce horizon ds s → Same horizon s (settings_in_force ds)
+  pub no_other : (ds : List Demand) (s : ℕ → ℕ) → Sound horizon ds → InForce horizon ds s
+      → Same horizon s (settings_in_force ds)
   -- for any number of ticks there is one such list, and only one
   pub found : (n : ℕ) (ds : List Demand) → Sound n ds → InForce n ds (settle n ds (work ds 0 n))
   pub only : (n : ℕ) (ds : List Demand) (s q : ℕ → ℕ) → InForce n ds s → InForce n ds q → Same n s q
   -- a list is in force just if it is settled
   pub settled : (n : ℕ) (ds : List Demand) (s : ℕ → ℕ) → Sound n ds → InForce n ds s ↔ Settled n ds s
   -- where no interval is overloaded they stay within the top
-  pub within : (ds : List Demand) (top : ℕ) → NoneOverloaded horizon ds top → (t : ℕ) → t < horizon → settings_in_force ds t ≤ top
+  pub within : (ds : List Demand) (top : ℕ) → NoneOverloaded horizon ds top
+      → (t : ℕ) → t < horizon → settings_in_force ds t ≤ top
   -- they depend on the demands only through the work of intervals
-  pub by_work : (ds es : List Demand) → ((a b : ℕ) → a < b → b ≤ horizon → work ds a b ≡ work es a b) → Same horizon (settings_in_force ds) (settings_in_force es)
+  pub by_work : (ds es : List Demand) → ((a b : ℕ) → a < b → b ≤ horizon → work ds a b ≡ work es a b)
+      → Same horizon (settings_in_force ds) (settings_in_force es)
 
 -- 3. The optimum, compared with every list that does the open work, spare units allowed
 pub record Optimum : Type 0 where
-  -- no such list draws less, under every D that rises and is convex as far as the list goes: up to 255, if its settings are
+  -- no such list draws less, under every D that rises and is convex as far as the list goes: up to 255, if its
+  -- settings are
   pub cheapest : (ds : List Demand) (q : ℕ → ℕ) → Does horizon ds q → (last : ℕ) → ((t : ℕ) → t < horizon → q t ≤ last)
       → (D : ℕ → ℕ) → Rising last D → Convex last D → drawn horizon D (settings_in_force ds) ≤ drawn horizon D q
   -- and none has a lower greatest setting
@@ -80,7 +86,8 @@ pub record Ticked (ds : List Demand) : Type 0 where
   -- it leaves no work in a window that ends with the tick
   pub in_time : All (λ d. d.to ≡ 0 → d.units ≡ 0) (next (settings_in_force ds 0) ds)
   -- what is left overloads no interval, where none was overloaded before
-  pub none_overloaded : (top : ℕ) → NoneOverloaded horizon ds top → NoneOverloaded horizon (next (settings_in_force ds 0) ds) top
+  pub none_overloaded : (top : ℕ) → NoneOverloaded horizon ds top
+      → NoneOverloaded horizon (next (settings_in_force ds 0) ds) top
   -- what is left has its windows, and its order, for the next tick
   pub sound : Sound horizon (next (settings_in_force ds 0) ds)
   pub sorted : Sorted (next (settings_in_force ds 0) ds)
@@ -94,7 +101,8 @@ pub record Serving : Type 0 where
   pub ticked : (ds : List Demand) → Sorted ds → Sound horizon ds → Ticked ds
   -- any order among equal deadlines does: in every order es by deadline, however the demands ds come,
   -- the settings in force are the same, and a tick serves its setting
-  pub any_order : (ds es : List Demand) → Sound horizon ds → IsPermutation ds es → Sorted es → Same horizon (settings_in_force es) (settings_in_force ds) × Ticked es
+  pub any_order : (ds es : List Demand) → Sound horizon ds → IsPermutation ds es → Sorted es
+      → Same horizon (settings_in_force es) (settings_in_force ds) × Ticked es
 
 -- 5. The way of the planner
 pub record Planning : Type 0 where
@@ -116,7 +124,9 @@ pub record Blocking : Type 0 where
   pub only_best : (ws : List Demand) (p q : Pair) → Best ws p → Best ws q → q ≡ p
   -- pairs from a start to an end suffice: a pair with work in it is best if it goes before all of those
   pub start_to_end : (m : ℕ) (ws : List Demand) → NonEmpty m ws → (p : Pair) → p.low < p.high → 0 < pair_work ws p
-      → ((q : Pair) → q.low < q.high → starts q.low ws ≡ true → ends q.high ws ≡ true → Leads (pair_work ws p) p (pair_work ws q) q) → Best ws p
+      → ((q : Pair) → q.low < q.high → starts q.low ws ≡ true → ends q.high ws ≡ true
+      → Leads (pair_work ws p) p (pair_work ws q) q)
+      → Best ws p
   -- the rounds, for all demands that have work left
   pub blocked : (n : ℕ) (ds : List Demand) → Sound n ds → AllOpen ds → Blocked n ds
 

@@ -1,7 +1,7 @@
 use Rattle.std.proofs.Common.{◌^◌, arith, rules}
 use Rattle.std.proofs.lemmas.Iterator.{YieldsList-from_slice}
 use Rattle.std.proofs.lemmas.Iterator.Adapters.{fits_from_length, at_most_from_yields_List}
-use Rattle.power.proofs.sum.total_draw.Goals as goal
+use Rattle.book.proofs.bill.total_draw.Goals as goal
 
 -- 256 draws of 32 bits
 pub sum-requires-clause-fits : goal.sum-requires-clause-fits
