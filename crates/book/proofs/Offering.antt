@@ -86,7 +86,7 @@ admissible b j e =
     let places = none.1 in
     record { is_open_at = open_fields b.now j fields; closed = grind (arith, nat_tests); room = grind (arith, nat_tests) }
 
-pub no_fault : {A : Type 0} (o : Option A) → ok_unless o tt ≡ Ok tt → o ≡ None
+pub no_fault : {A : Type 0} (o : Option A) → ok_unless {A = Unit {0}} o tt ≡ Ok tt → o ≡ None
 no_fault None e = refl
 no_fault (Some x) e = absurd (cc)
 

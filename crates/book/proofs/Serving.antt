@@ -159,14 +159,14 @@ module _ (start : Start) (state : State) (x : ReadyJob) (q r : Slots ReadyJob) (
   nonempty : 0 < length (ready_jobs start.now (length s.pre) s.rest)
   nonempty = alike_length (ready_jobs start.now (length s.pre) s.rest) (elements_of q) x (elements_of r) queued taken.holds
 
-  next_begun : Begun start.now state.left s.pre s.rest
+  pub next_begun : Begun start.now state.left s.pre s.rest
   next_begun = skip start.now state.left s.pre s.rest s.working s.order nonempty
 
-  pub next_job : Job
+  abbrev pub next_job : Job
   next_job = next_begun.job
 
   -- what it gets
-  pub next_units : ℕ
+  abbrev pub next_units : ℕ
   next_units = min next_begun.job.work state.left
 
   queue_is : ready_jobs start.now (length next_begun.before) (next_begun.job ∷ next_begun.after)

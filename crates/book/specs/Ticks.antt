@@ -51,7 +51,7 @@ tick_fault b list =
 abbrev pub tick_outcome : View → List Entry → Outcome Served BookFault (List Entry)
 tick_outcome b list =
     let es = entries_of (shares_of b) in
-    let served = record { setting = settings_of b 0; count = length es } in
+    let served : Served = record { setting = settings_of b 0; count = length es } in
     outcome (tick_fault b list) b list (accepted served (book_after_tick b) (list_with es list))
 
 -- the units of the entries that a served tick wrote add up to its setting

@@ -225,8 +225,8 @@ wrong_at list i lt t e = record { before = before; none_with = none_with }
         never_wrong b.now [] b.jobs (64 - length b.jobs) 1 i (later_records list) (standing b can.1) can.2 parts.1 (ap (λ n. first_wrong_later n [] 1 (later_records list)) (sym now) ∙ e)
 
 -- the record that is named is the first wrong one, and one of the 65
-first_wrong : (list : List ℕ) (k : ℕ) → first_wrong list ≡ Some k → IsFirstWrong k list × (k < 65)
-first_wrong list k e = go (is_clock (record_in list 0)) refl e
+names_first_wrong : (list : List ℕ) (k : ℕ) → first_wrong list ≡ Some k → IsFirstWrong k list × (k < 65)
+names_first_wrong list k e = go (is_clock (record_in list 0)) refl e
   where
     go : (t : Bool) → is_clock (record_in list 0) ≡ t → cond t (first_wrong_later (now_in (record_in list 0)) [] 1 (later_records list)) (Some 0) ≡ Some k → IsFirstWrong k list × (k < 65)
     go false t s = let same : 0 ≡ k = cc in (subst (λ n. IsFirstWrong n list) same (wrong_clock list t), omega arith)
@@ -250,7 +250,7 @@ only_images before list le = subst (λ f. OnlyImages list (plain_outcome f befor
     go : (w : Option ℕ) → first_wrong list ≡ w → (o : Option (ℕ × ℕ)) → first_overload_of (book_in list) ≡ o
         → OnlyImages list (plain_outcome (option_map Image (option_or w (option_map (λ ab. 65) o))) before (book_in list)).answer (plain_outcome (option_map Image (option_or w (option_map (λ ab. 65) o))) before (book_in list)).book
     go (Some n) e o s =
-        let wrong = first_wrong list n e in
+        let wrong = names_first_wrong list n e in
         record {
           accepted = (λ no. absurd (cc), λ can. absurd (let none = none_wrong_shown can.0 can.1.well_formed can.2 list can.3 in cc));
           same = λ b l fit shows. absurd (let none = none_wrong_shown b l.well_formed fit list shows in cc);

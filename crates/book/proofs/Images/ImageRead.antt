@@ -257,14 +257,14 @@ module _ (list : List ℕ) (long : 1560 ≤ length list) (rs : List (List ℕ)) 
       lawful_read e = let b = book_with now top js in lawful_from b well_formed_read (overload_none b (first_overload_of b) e)
 
 -- what load answers and leaves, by what it reads
-pub load_refused : (b : View) (list : List ℕ) (fault : BookFault) → Err fault ≡ reading list → load_outcome b list ≡ record { answer = Err fault; book = b }
+pub load_refused : (b : View) (list : List ℕ) (fault : BookFault) → Err fault ≡ reading list → load_outcome b list ≡ record { answer = Err fault; book = b; list = tt }
 load_refused b list fault e = ap (λ o. plain_outcome o b (book_in list)) (fault_only (load_fault list) fault (book_in list) e)
 
-pub load_accepted : (b after : View) (list : List ℕ) → Ok after ≡ reading list → load_outcome b list ≡ record { answer = Ok tt; book = after }
+pub load_accepted : (b after : View) (list : List ℕ) → Ok after ≡ reading list → load_outcome b list ≡ record { answer = Ok tt; book = after; list = tt }
 load_accepted b after list e =
     let read = read_only (load_fault list) after (book_in list) e in
-    ap (λ o. plain_outcome o b (book_in list)) read.0 ∙ ap (λ (v : View). record { answer = Ok tt; book = v }) (sym read.1)
+    ap (λ o. plain_outcome o b (book_in list)) read.0 ∙ ap (λ (v : View). record { answer = Ok tt; book = v; list = tt }) (sym read.1)
 
 -- and what that tells of the list
-pub only_loaded : (b : View) (list : List ℕ) (answer : Result (Unit {0}) BookFault) (after : View) → 1560 ≤ length list → load_outcome b list ≡ record { answer = answer; book = after } → OnlyImages list answer after
+pub only_loaded : (b : View) (list : List ℕ) (answer : Result (Unit {0}) BookFault) (after : View) → 1560 ≤ length list → load_outcome b list ≡ record { answer = answer; book = after; list = tt } → OnlyImages list answer after
 only_loaded b list answer after long e = subst (λ (o : Outcome (Unit {0}) BookFault (Unit {0})). OnlyImages list o.answer o.book) e (only_images b list long)
