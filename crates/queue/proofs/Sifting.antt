@@ -1,4 +1,4 @@
--- One level of a sift in the list s: the element x, which would stand at the place i, goes on to the place j, and y from there to i.
+-- One level of a sift in the list s: the element x, which would stand at the index i, goes on to the index j, and y from there to i.
 use Rattle.std.proofs.Common.{◌≡◌, ℕ, ◌+◌, ◌-◌, ◌/◌, ◌<◌, ◌≤◌, Bool, true, false, ◌≢◌, List, length, get_or, set, take, drop, [], ◌∷◌, ◌++◌, suc, sym, subst, ◌∙◌, arith}
 use Rattle.std.specs.Cmp.{IsStrictWeakOrder}
 use Rattle.std.specs.List.{swap}
@@ -6,7 +6,7 @@ use Rattle.std.specs.List.Sorted.{IsPermutation}
 use Rattle.std.proofs.lemmas.List.{length-set, set_split, drop_all, length-take-le, get_or-take, get_or_default, get_or-set_same, get_or-set_other, set-set}
 use Rattle.std.proofs.lemmas.List.Edits.{swap_is, swapped_from_swap, Swapped}
 use Rattle.std.proofs.lemmas.List.Sorted.{IsPermutation-swap, IsPermutation-refl, IsPermutation-sym, IsPermutation-to_front}
-use Rattle.queue.specs.Tree.{Child, HeapOrder}
+use Rattle.queue.specs.Tree.{IsChild, IsHeap}
 use Rattle.queue.proofs.Steps.{Ordered, OrderedExcept, up_step, up_top, up_done, down_step, down_done}
 
 -- only the element at i may be before the one above it
@@ -17,11 +17,11 @@ OrderedButAbove {X} before xs i = (d : X) → OrderedExcept before (λ _ k. k �
 abbrev pub OrderedButBelow : {X : Type 0} → (X → X → Bool) → List X → ℕ → Type 0
 OrderedButBelow {X} before xs i = (d : X) → OrderedExcept before (λ p _. p ≡ i) (λ k. get_or xs k d) (length xs) i
 
--- the order of the tree, by places that are one more
-pub to_heap : {X : Type 0} (before : X → X → Bool) (xs : List X) → ((d : X) → Ordered before (λ k. get_or xs k d) (length xs)) → HeapOrder before xs
+-- the order of the tree, by indices that are one more
+pub to_heap : {X : Type 0} (before : X → X → Bool) (xs : List X) → ((d : X) → Ordered before (λ k. get_or xs k d) (length xs)) → IsHeap before xs
 to_heap before xs h d k kl = h d (k / 2) (k + 1) (omega arith, omega arith) kl
 
-pub from_heap : {X : Type 0} (before : X → X → Bool) (xs : List X) → HeapOrder before xs → (d : X) → Ordered before (λ k. get_or xs k d) (length xs)
+pub from_heap : {X : Type 0} (before : X → X → Bool) (xs : List X) → IsHeap before xs → (d : X) → Ordered before (λ k. get_or xs k d) (length xs)
 from_heap before xs h d p k c kl =
     let ek : k - 1 + 1 ≡ k = omega arith in
     let ep : (k - 1) / 2 ≡ p = omega arith in
@@ -61,18 +61,18 @@ module _ {X : Type 0} (s : List X) (i j : ℕ) (x y : X) where
 
     module _ (before : X → X → Bool) (o : IsStrictWeakOrder before) where
       -- one level up
-      pub moved_up : Child j i → before x y ≡ true → OrderedButAbove before here i → OrderedButAbove before there j
+      pub moved_up : IsChild j i → before x y ≡ true → OrderedButAbove before here i → OrderedButAbove before there j
       moved_up ch b up e =
           let ih : i < length here = omega (arith, il, length-here) in
           subst (λ n. OrderedExcept before (λ _ k. k ≡ j) (λ k. get_or there k e) n j) length-there
           (up_step before o (λ k. get_or here k e) (λ k. get_or there k e) (length here) i j (up e) ch ih (rw (at_i e, at_j e) b) (swapped e))
 
-      pub stays_below_parent : Child j i → before x y ≡ false → OrderedButAbove before here i → HeapOrder before here
+      pub stays_below_parent : IsChild j i → before x y ≡ false → OrderedButAbove before here i → IsHeap before here
       stays_below_parent ch b up = to_heap before here (λ e. up_done before o (λ k. get_or here k e) (length here) i j (up e) ch (rw (at_i e, at_j e) b))
 
       -- one level down, to the child that none is before
-      module _ (ch : Child i j) (least : (k : ℕ) (e : X) → Child i k → k < length s → before (get_or s k e) (get_or s j e) ≡ false) (down : OrderedButBelow before here i) where
-        not_before : (k : ℕ) (e : X) → Child i k → k < length here → before (get_or here k e) y ≡ false
+      module _ (ch : IsChild i j) (least : (k : ℕ) (e : X) → IsChild i k → k < length s → before (get_or s k e) (get_or s j e) ≡ false) (down : OrderedButBelow before here i) where
+        not_before : (k : ℕ) (e : X) → IsChild i k → k < length here → before (get_or here k e) y ≡ false
         not_before k e ck kl =
             let nk : k ≢ i = omega (arith, ck.0) in
             let l = least k e ck (omega (arith, kl, length-here)) in
@@ -86,19 +86,19 @@ module _ {X : Type 0} (s : List X) (i j : ℕ) (x y : X) where
             (λ k ck kl. rw (at_j e) (not_before k e ck kl))
             (swapped e))
 
-        pub stays_above_children : before y x ≡ false → HeapOrder before here
+        pub stays_above_children : before y x ≡ false → IsHeap before here
         stays_above_children b = to_heap before here
             (λ e. down_done before o (λ k. get_or here k e) (length here) i (down e) (λ k ck kl. rw (at_i e) (o.chain _ _ _ (not_before k e ck kl) b)))
 
 -- at the top nothing is above, at the bottom nothing below
-pub at_top : {X : Type 0} (before : X → X → Bool) (o : IsStrictWeakOrder before) (xs : List X) (i : ℕ) → i ≡ 0 → OrderedButAbove before xs i → HeapOrder before xs
+pub at_top : {X : Type 0} (before : X → X → Bool) (o : IsStrictWeakOrder before) (xs : List X) (i : ℕ) → i ≡ 0 → OrderedButAbove before xs i → IsHeap before xs
 at_top before o xs i z up = to_heap before xs (λ e. up_top before o (λ k. get_or xs k e) (length xs) i (up e) z)
 
-pub at_bottom : {X : Type 0} (before : X → X → Bool) (o : IsStrictWeakOrder before) (xs : List X) (i : ℕ) → length xs / 2 ≤ i → OrderedButBelow before xs i → HeapOrder before xs
+pub at_bottom : {X : Type 0} (before : X → X → Bool) (o : IsStrictWeakOrder before) (xs : List X) (i : ℕ) → length xs / 2 ≤ i → OrderedButBelow before xs i → IsHeap before xs
 at_bottom before o xs i le down = to_heap before xs (λ e. down_done before o (λ k. get_or xs k e) (length xs) i (down e) (λ k ck kN. absurd (omega arith)))
 
 -- x in place of the last element of a list that is a heap without it, and in place of the first of a heap
-pub last_but_above : {X : Type 0} (before : X → X → Bool) (s : List X) (n : ℕ) (x : X) → n + 1 ≡ length s → HeapOrder before (take n s) → OrderedButAbove before (set s n x) n
+pub last_but_above : {X : Type 0} (before : X → X → Bool) (s : List X) (n : ℕ) (x : X) → n + 1 ≡ length s → IsHeap before (take n s) → OrderedButAbove before (set s n x) n
 last_but_above before s n x len h d = (
   (λ p k c kl ne.
       let kn : k < n = omega (arith, kl, length-set s n x) in
@@ -115,7 +115,7 @@ last_holds s n x len =
     let e : set s n x ≡ take n s ++ x ∷ [] = rw (drop_all (suc n) s (omega arith)) at (set_split s n x (omega arith)) in
     rw e (IsPermutation-sym _ _ (IsPermutation-to_front (take n s) x))
 
-pub first_but_below : {X : Type 0} (before : X → X → Bool) (s : List X) (x : X) → HeapOrder before s → OrderedButBelow before (set s 0 x) 0
+pub first_but_below : {X : Type 0} (before : X → X → Bool) (s : List X) (x : X) → IsHeap before s → OrderedButBelow before (set s 0 x) 0
 first_but_below before s x h d = (
   (λ p k c kl ne.
       let nk : k ≢ 0 = omega arith in

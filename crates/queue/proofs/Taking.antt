@@ -8,7 +8,7 @@ use Rattle.std.proofs.lemmas.List.{take_at, take_more, length-take-le, get_or-ta
 use Rattle.std.proofs.lemmas.List.Sorted.{IsPermutation-cons, IsPermutation-to_front, IsPermutation-trans, IsPermutation-refl, length_permutation}
 use Rattle.queue.specs.Order.{JustOne}
 use Rattle.queue.specs.Slots.{Slots, elements_of}
-use Rattle.queue.specs.Tree.{HeapOrder}
+use Rattle.queue.specs.Tree.{IsHeap}
 use Rattle.queue.specs.Says.{TakeSays, LeastSays, ReplaceSays}
 use Rattle.queue.proofs.Steps.{least_at_root}
 use Rattle.queue.proofs.Sifting.{from_heap}
@@ -20,7 +20,7 @@ starts (x ∷ s) d some = refl
 
 -- of the m + 1 elements that q holds as a heap the first one leaves
 module _ {X : Type 0} {before : X → X → Bool} (same : X → X → Bool) (one : (x y : X) → JustOne (before x y) (same x y) (before y x)) (o : IsStrictWeakOrder before)
-    (q r : Slots X) (m : ℕ) (d : X) (fits : q.count ≤ length q.slots) (ordered : HeapOrder before (elements_of q)) (count : q.count ≡ m + 1) where
+    (q r : Slots X) (m : ℕ) (d : X) (fits : q.count ≤ length q.slots) (ordered : IsHeap before (elements_of q)) (count : q.count ≡ m + 1) where
   taken : r.count ≡ m → length r.slots ≡ length q.slots → IsPermutation (elements_of q) (get_or q.slots 0 d ∷ elements_of r) → TakeSays before same q r (Some (get_or q.slots 0 d))
   taken left slots holds =
       let x = get_or q.slots 0 d in
@@ -60,7 +60,7 @@ module _ {X : Type 0} {before : X → X → Bool} (same : X → X → Bool) (one
 
 -- what stays without the first of the elements that q holds as a heap, and what is held with x besides that
 module _ {X : Type 0} {before : X → X → Bool} (same : X → X → Bool) (one : (x y : X) → JustOne (before x y) (same x y) (before y x)) (o : IsStrictWeakOrder before)
-    (q : Slots X) (d : X) (fits : q.count ≤ length q.slots) (ordered : HeapOrder before (elements_of q)) (some : 0 < q.count) where
+    (q : Slots X) (d : X) (fits : q.count ≤ length q.slots) (ordered : IsHeap before (elements_of q)) (some : 0 < q.count) where
   abbrev rest : Slots X
   rest = record { slots = drop 1 (elements_of q) ++ drop (q.count - 1) q.slots; count = q.count - 1 }
 

@@ -1,12 +1,13 @@
--- The orders of ready jobs and of loaded ticks.
+-- The orders of ready jobs and of planned ticks.
 use Rattle.std.specs.Prelude.{ℕ, Bool, ◌&&◌, ◌||◌, ◌==◌, nat_lt}
 use Rattle.queue.specs.declared.ready.ReadyJob.{ReadyJob}
 use Rattle.queue.specs.declared.ticks.PlannedTick.{PlannedTick}
 
--- by a first number, then by a second one
+-- before the other by a first number, then by a second one
 abbrev pub is_before_by : {X : Type 0} → (X → ℕ) → (X → ℕ) → X → X → Bool
 is_before_by a b x y = nat_lt (a x) (a y) || (a x == a y && nat_lt (b x) (b y))
 
+-- of the same rank: both numbers are the same
 abbrev pub is_same_by : {X : Type 0} → (X → ℕ) → (X → ℕ) → X → X → Bool
 is_same_by a b x y = a x == a y && b x == b y
 

@@ -1,5 +1,6 @@
 -- What a put, a take, the least and a replacement of it answer, and what is held afterwards.
-use Rattle.std.specs.Prelude.{◌≡◌, ℕ, ◌+◌, ◌<◌, Bool, false, cond, List, [], ◌∷◌, length, Some, None, Ok, Err, MatchBool, Option, Result, nat_lt, slice_index_or}
+use Rattle.std.specs.Prelude.{◌≡◌, ℕ, ◌+◌, ◌<◌, Bool, false, if◌then◌else◌, List, [], ◌∷◌, length, Some, None, Ok, Err}
+use Rattle.std.specs.Prelude.{MatchBool, Option, Result, nat_lt, slice_index_or}
 use Rattle.std.specs.List.{best_of, AllByRecursion}
 use Rattle.std.specs.List.Sorted.{IsPermutation}
 use Rattle.queue.specs.declared.fault.QueueFault.{QueueFault}
@@ -29,15 +30,16 @@ PutLeaves x q r = MatchBool (has_room q) (Added x q r) (r ≡ q)
 
 -- what a put answers: an element that finds no free slot is given back
 abbrev pub try_put_answer : {X : Type 0} → X → Slots X → Result (Unit {0}) X
-try_put_answer x q = cond (has_room q) (Ok tt) (Err x)
+try_put_answer x q = if has_room q then Ok tt else Err x
 
 -- or it is refused with the slots there are, and one
 abbrev pub put_answer : {X : Type 0} → Slots X → Result (Unit {0}) QueueFault
-put_answer q = cond (has_room q) (Ok tt) (Err (Full (length q.slots + 1)))
+put_answer q = if has_room q then Ok tt else Err (Full (length q.slots + 1))
 
 -- no two of the elements have the same rank
 abbrev pub NoTies : {X : Type 0} → (X → X → Bool) → List X → Type 0
-NoTies {X} same xs = (i j : ℕ) (d : X) → i < j → j < length xs → same (slice_index_or xs i d) (slice_index_or xs j d) ≡ false
+NoTies {X} same xs =
+    (i j : ℕ) (d : X) → i < j → j < length xs → same (slice_index_or xs i d) (slice_index_or xs j d) ≡ false
 
 -- the first of the elements that none is before
 abbrev pub least_of : {X : Type 0} → (X → X → Bool) → List X → Option X
@@ -64,7 +66,8 @@ Refilled x None q r = r ≡ q
 Refilled x (Some y) q r = Added x q r
 
 -- what a replacement of the least by x answers: what a take does, with x put into what that leaves
-pub record ReplaceSays {X : Type 0} (before same : X → X → Bool) (x : X) (q r : Slots X) (answer : Option X) : Type 0 where
+pub record ReplaceSays {X : Type 0} (before same : X → X → Bool) (x : X) (q r : Slots X) (answer : Option X)
+    : Type 0 where
   pub left : Slots X
   pub taken : TakeSays before same q left answer
   pub refilled : Refilled x answer left r

@@ -5,10 +5,18 @@ ghost use Rattle.queue.specs.Refusals.{queue_refusal};
 use refusal::{Layer, Refusal};
 
 /// Why an element is not added to a queue.
+///
+/// ```text
+/// // queue_tests: slots::the_refusal_tells_the_slots_needed
+/// Refusal::from(QueueFault::Full { needed: 3 });   // of layer Queue, number 10, value 3: it is printed as 10 3
+/// ```
 #[derive(Clone, Copy, PartialEq, Eq, Debug)]
 pub enum QueueFault {
-    /// Every slot is taken; so many slots would be needed.
-    Full { needed: usize },
+    /// Every slot is taken.
+    Full {
+        /// How many slots would be needed: one more than there are.
+        needed: usize,
+    },
 }
 
 impl From<QueueFault> for Refusal {

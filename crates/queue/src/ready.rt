@@ -10,13 +10,16 @@ use super::order::Rank;
 /// A job whose window has begun.
 #[derive(Clone, Copy, PartialEq, Eq, Debug, Default)]
 pub struct ReadyJob {
+    /// The tick by which its work is done: the least comes first.
     pub deadline: u64,
+    /// Its ticket: of one deadline the least comes first.
     pub ticket: u16,
-    /// Where the job stands in its table; it plays no part in the order.
+    /// Where the job stands in the list of jobs that it is from; it plays no part in the order.
     pub index: u8,
 }
 
-// Written for each element type, with laws that the check finds: a key with an `Ord` would hide what before and same rank are.
+// Written for each element type, with laws that the check finds: a key with an `Ord` would hide what before and same
+// rank are.
 impl Rank for ReadyJob {
     ghost before = { is_ready_before };
 
@@ -41,7 +44,18 @@ impl ReadyQueue<'_> {
     ghost use Rattle.queue.specs.Slots.{slots_of};
     ghost use Rattle.queue.specs.Says.{PutLeaves, put_answer};
 
-    /// Adds a job, or refuses with 10 and the slots that would be needed where every slot is taken.
+    /// Adds a job. Where it refuses, all is as before.
+    ///
+    /// # Refusals
+    /// - `QueueFault::Full`: every slot is taken; it is told as 10 and the slots that would be needed.
+    ///
+    /// ```text
+    /// // queue_tests: examples::of_a_ready_queue
+    /// let mut slots = [ReadyJob::default(); 1];
+    /// let mut ready = ReadyQueue::new(&mut slots);
+    /// ready.put(ReadyJob { deadline: 9, ticket: 1, index: 0 });   // Ok(())
+    /// ready.put(ReadyJob { deadline: 5, ticket: 2, index: 1 });   // Err(QueueFault::Full { needed: 2 })
+    /// ```
     pub fn put(&mut self, job: ReadyJob) -> Result<(), QueueFault>
         ensures answer { result ≡ put_answer (slots_of self.old) }
         ensures after { PutLeaves job (slots_of self.old) (slots_of self.new) }

@@ -12,7 +12,7 @@ fn next(number: u32) -> u32 {
 // `count` ticks with few different units go in, and come out as a sort of their pairs has them.
 fn check_sorted(rt: &impl Abort, alloc: Global, count: usize, seed: u32) -> Result<(), Fail> {
     assert!(rt; count <= 64);
-    let mut slots = [PlannedTick { units: 0, tick: 0 }; 64];
+    let mut slots = [PlannedTick::default(); 64];
     let mut queue = TickQueue::new(&mut slots);
     let mut pairs = Vec::new(alloc);
     let mut number = seed;
@@ -53,11 +53,7 @@ fn take_first(list: &mut Vec<ReadyJob>) -> Option<ReadyJob> {
 
 // Puts and takes by chance, each answered as a plain list answers it. Tickets count up, so no two jobs have one rank.
 fn check_mixed(rt: &impl Abort, alloc: Global, seed: u32) -> Result<(), Fail> {
-    let mut slots = [ReadyJob {
-        deadline: 0,
-        ticket: 0,
-        index: 0,
-    }; 32];
+    let mut slots = [ReadyJob::default(); 32];
     let mut queue = ReadyQueue::new(&mut slots);
     let mut list = Vec::new(alloc);
     let mut number = seed;
@@ -98,7 +94,7 @@ fn take_least(list: &mut Vec<PlannedTick>) -> Option<PlannedTick> {
 
 // Puts, takes and replacements by chance, each answered as a plain list answers it. No tick comes twice.
 fn check_replaced(rt: &impl Abort, alloc: Global, seed: u32) -> Result<(), Fail> {
-    let mut slots = [PlannedTick { units: 0, tick: 0 }; 32];
+    let mut slots = [PlannedTick::default(); 32];
     let mut queue = TickQueue::new(&mut slots);
     let mut list = Vec::new(alloc);
     let mut number = seed;

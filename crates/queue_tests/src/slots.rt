@@ -76,11 +76,7 @@ fn a_replacement_keeps_the_count(rt: HostRuntime) {
 // Two jobs of one rank both come out, each once, before a later one.
 #[test]
 fn jobs_of_one_rank_both_come(rt: HostRuntime) {
-    let mut slots = [ReadyJob {
-        deadline: 0,
-        ticket: 0,
-        index: 0,
-    }; 3];
+    let mut slots = [ReadyJob::default(); 3];
     let mut queue = ReadyQueue::new(&mut slots);
     for (ticket, index) in [(9u16, 4u8), (8, 1), (8, 2)] {
         assert!(rt;
@@ -94,8 +90,8 @@ fn jobs_of_one_rank_both_come(rt: HostRuntime) {
         );
     }
     let taken = [queue.take(), queue.take(), queue.take()];
-    let places = taken.map(|job| job.map(|job| job.index));
-    assert!(rt; places == [Some(1), Some(2), Some(4)] || places == [Some(2), Some(1), Some(4)]);
+    let indices = taken.map(|job| job.map(|job| job.index));
+    assert!(rt; indices == [Some(1), Some(2), Some(4)] || indices == [Some(2), Some(1), Some(4)]);
 }
 
 #[test]
