@@ -56,7 +56,8 @@ overloaded_proper n top ds a b sound more = elim (cases_lt a b) [
   | inr le ↦ absurd (grind (arith, nat_tests, work_empty n ds a b sound le))
 ]
 
--- what the inner loop has passed: from the start a, none of the first n demands overloads an interval together with those before it
+-- what the inner loop has passed: from the start a, none of the first n demands overloads an interval together with
+-- those before it
 abbrev pub Passed : ℕ → List Demand → ℕ → ℕ → Type 0
 Passed top ds a n = (m b : ℕ) → m ≤ n → All (λ d. d.to ≤ b) (take m ds) → sum_by (work_from a) (take m ds) ≤ top * (b - a)
 

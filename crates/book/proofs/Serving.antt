@@ -117,8 +117,8 @@ pub record State : Type 0 where
   pub list : List Entry
   pub queue : List ReadyJob
 
--- the jobs of `pre` are served or passed over, those of `rest` are not yet, and the queue holds the ready jobs of `rest`;
--- what is done and what is still to come make up what the whole setting comes to
+-- the jobs of `pre` are served or passed over, those of `rest` are not yet, and the queue holds the ready jobs of
+-- `rest`; what is done and what is still to come make up what the whole setting comes to
 pub record Serving (start : Start) (state : State) : Type 0 where
   pub pre : List Job
   pub rest : List Job

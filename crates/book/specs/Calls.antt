@@ -1,4 +1,5 @@
--- What each call answers, and the book that it leaves. The checks run in ascending order of the refusals' numbers and fields.
+-- What each call answers, and the book that it leaves. The checks run in ascending order of the refusals' numbers and
+-- fields.
 use Rattle.std.specs.Prelude.{ℕ, ◌+◌, ◌||◌, if◌then◌else◌, List, length, Some, None, Option, ◌==◌, nat_lt, nat_le}
 use Rattle.std.specs.Option.{option_map, option_or}
 use Rattle.schedule.specs.InForce.{horizon}
@@ -42,7 +43,8 @@ abbrev pub field_fault : ℕ → Job → Option BookField
 field_fault now j =
     if j.ticket == 0 then Some Ticket else
     if nat_lt j.arrival now then Some Arrival else
-    if nat_le j.deadline j.arrival || (nat_lt (now + 256) j.deadline || nat_lt last_tick j.deadline) then Some Deadline else
+    if nat_le j.deadline j.arrival || (nat_lt (now + 256) j.deadline || nat_lt last_tick j.deadline)
+    then Some Deadline else
     if j.work == 0 then Some Work else None
 
 -- why an offered job finds no place: its ticket, or all places are taken

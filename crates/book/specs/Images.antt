@@ -1,5 +1,7 @@
 -- The image of a book: 65 records of 24 bytes. What save writes and load accepts.
-use Rattle.std.specs.Prelude.{ℕ, ◌+◌, ◌-◌, ◌*◌, ◌++◌, Bool, ◌&&◌, not, if◌then◌else◌, List, [], ◌∷◌, length, map, drop, replicate, take_while, position, Some, None, Option, ◌==◌, nat_le, nat_lt, slice_index, bytes_eq}
+use Rattle.std.specs.Prelude.{ℕ, ◌+◌, ◌-◌, ◌*◌, ◌++◌, Bool, ◌&&◌, not, if◌then◌else◌, List, [], ◌∷◌, length}
+use Rattle.std.specs.Prelude.{map, drop, replicate, take_while, position, Some, None, Option, ◌==◌, nat_le}
+use Rattle.std.specs.Prelude.{nat_lt, slice_index, bytes_eq}
 use Rattle.std.specs.List.{range_with_len, flat_map, list_all}
 use Rattle.std.specs.Option.{option_map, option_or}
 use Rattle.layout.specs.BigEndian.{part}
@@ -12,9 +14,11 @@ use Rattle.book.specs.Book.{View}
 use Rattle.book.specs.Outcomes.{Outcome, accepted, outcome}
 use Rattle.book.specs.Calls.{plain_outcome, first_overload_of}
 
--- the record of now and the top: now stands where a job has its arrival (bytes 4 to 9), and the top where it has its work (16 and 17)
+-- the record of now and the top: now stands where a job has its arrival (bytes 4 to 9), and the top where it has its
+-- work (16 and 17)
 abbrev pub clock_record : (now top : ℕ) → List ℕ
-clock_record now top = record_bytes 0x43 (record { ticket = 0; arrival = now; deadline = 0; work = top }) (replicate 6 0)
+clock_record now top =
+    record_bytes 0x43 (record { ticket = 0; arrival = now; deadline = 0; work = top }) (replicate 6 0)
 
 -- the record of an open job
 abbrev pub job_record : Job → List ℕ
@@ -70,34 +74,40 @@ book_in list = record {
 -- whether a job can be open at now (`OpenAt`), as a test
 abbrev pub can_be_open : ℕ → Job → Bool
 can_be_open now j =
-    nat_lt 0 j.ticket && (nat_lt 0 j.work && (nat_lt now j.deadline && (nat_le j.deadline (now + 256) && (nat_le j.deadline last_tick
+    nat_lt 0 j.ticket && (nat_lt 0 j.work
+    && (nat_lt now j.deadline && (nat_le j.deadline (now + 256) && (nat_le j.deadline last_tick
     && (nat_lt j.arrival j.deadline && nat_le j.deadline (j.arrival + 256))))))
 
 -- whether a record is that of some now and top
 abbrev pub is_clock : List ℕ → Bool
 is_clock r = bytes_eq r (clock_record (now_in r) (top_in r)) && (nat_le 1 (top_in r) && nat_le (top_in r) 255)
 
--- whether a record is that of a next job after those before: of a job that is served after them and can be open besides them
+-- whether a record is that of a next job after those before: of a job that is served after them and can be open
+-- besides them
 abbrev pub is_next_job : (now : ℕ) (before : List Job) → List ℕ → Bool
 is_next_job now before r =
     let j = job_in r in
-    bytes_eq r (job_record j) && (can_be_open now j && (list_all (λ k. is_before k j) before && not (is_ticket_open j.ticket before)))
+    bytes_eq r (job_record j) && (can_be_open now j
+    && (list_all (λ k. is_before k j) before && not (is_ticket_open j.ticket before)))
 
 -- the number of the first record that is not blank, of the records from number k on
 abbrev pub first_not_blank : (k : ℕ) → List (List ℕ) → Option ℕ
 first_not_blank k rs = option_map (λ i. k + i) (position (λ r. not (bytes_eq r blank_record)) rs)
 
--- the number of the first record that is wrong, of the records from number k on, which stand after those of the jobs before:
--- as long as they are next jobs they go to the jobs before, and the rest has to be blank
+-- the number of the first record that is wrong, of the records from number k on, which stand after those of the jobs
+-- before: as long as they are next jobs they go to the jobs before, and the rest has to be blank
 abbrev pub first_wrong_later : (now : ℕ) (before : List Job) (k : ℕ) → List (List ℕ) → Option ℕ
 first_wrong_later now before k [] = None
 first_wrong_later now before k (r ∷ rs) =
-    if is_next_job now before r then first_wrong_later now (before ++ (job_in r ∷ [])) (k + 1) rs else first_not_blank k (r ∷ rs)
+    if is_next_job now before r
+    then first_wrong_later now (before ++ (job_in r ∷ [])) (k + 1) rs
+    else first_not_blank k (r ∷ rs)
 
 -- the number of the first record of a list that is wrong
 abbrev pub first_wrong : List ℕ → Option ℕ
 first_wrong list =
-    if is_clock (record_in list 0) then first_wrong_later (now_in (record_in list 0)) [] 1 (later_records list) else Some 0
+    let r = record_in list 0 in
+    if is_clock r then first_wrong_later (now_in r) [] 1 (later_records list) else Some 0
 
 -- an overload is told as the number after the last record
 abbrev pub overload_record : View → Option ℕ
@@ -105,7 +115,8 @@ overload_record b = option_map (λ ab. 65) (first_overload_of b)
 
 -- why an image is not loaded
 abbrev pub load_fault : List ℕ → Option BookFault
-load_fault list = option_or (length_fault list) (option_map Image (option_or (first_wrong list) (overload_record (book_in list))))
+load_fault list =
+    option_or (length_fault list) (option_map Image (option_or (first_wrong list) (overload_record (book_in list))))
 
 -- load makes the book that of an image
 abbrev pub load_outcome : View → List ℕ → Outcome (Unit {0}) BookFault (Unit {0})

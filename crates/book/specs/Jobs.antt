@@ -3,7 +3,8 @@ use Rattle.std.specs.Prelude.{ℕ, Bool, ◌&&◌, ◌||◌, not, List, ◌==◌
 use Rattle.std.specs.List.{list_any, filter, insert, position_or_len}
 use Rattle.layout.specs.declared.job.Job.{Job}
 
--- whether the first of two jobs is served before the second: it has the earlier deadline, or the same and the lesser ticket
+-- whether the first of two jobs is served before the second: it has the earlier deadline, or the same and the lesser
+-- ticket
 abbrev pub is_before : Job → Job → Bool
 is_before j k = nat_lt j.deadline k.deadline || (j.deadline == k.deadline && nat_lt j.ticket k.ticket)
 

@@ -1,5 +1,6 @@
 -- What save and load mean: load accepts the images of lawful books, and no others.
-use Rattle.std.specs.Prelude.{◌≡◌, ℕ, ◌+◌, ◌*◌, ◌<◌, ◌↔◌, List, length, take, slice_index_or, Ok, Err, Result, All, IsOk}
+use Rattle.std.specs.Prelude.{◌≡◌, ℕ, ◌+◌, ◌*◌, ◌<◌, ◌↔◌, List, length, take, slice_index_or, Ok, Err, Result}
+use Rattle.std.specs.Prelude.{All, IsOk}
 use Rattle.schedule.specs.InForce.{horizon}
 use Rattle.schedule.specs.Overload.{NoneOverloaded}
 use Rattle.layout.specs.declared.job.Job.{Job}
@@ -35,12 +36,14 @@ pub record IsFirstWrong (k : ℕ) (list : List ℕ) : Type 0 where
 pub record OnlyImages (list : List ℕ) (answer : Result (Unit {0}) BookFault) (after : View) : Type 0 where
   -- it is accepted just where it shows a lawful book
   pub accepted : IsOk answer ↔ ((b : View) × IsLawful b × AreSized b × Shows list b)
-  -- and the book is that one then; so an accepted image is the only one of its book: its first 1,560 bytes are the image of the book afterwards
+  -- and the book is that one then; so an accepted image is the only one of its book: its first 1,560 bytes are the
+  -- image of the book afterwards
   pub same : (b : View) → IsLawful b → AreSized b → Shows list b → after ≡ b
   -- the record that a refusal names is the first wrong one
   pub named : (k : ℕ) → answer ≡ Err (Image k) → k < 65 → IsFirstWrong k list
   -- or overload alone is wrong
-  pub overloaded : answer ≡ Err (Image 65) → (b : View) × IsWellFormed b × AreSized b × Shows list b × (NoneOverloaded horizon (demands b.now b.jobs) b.top → ⊥)
+  pub overloaded : answer ≡ Err (Image 65) → (b : View) × IsWellFormed b × AreSized b × Shows list b
+      × (NoneOverloaded horizon (demands b.now b.jobs) b.top → ⊥)
   -- there is no number after that
   pub numbered : (k : ℕ) → answer ≡ Err (Image k) → k < 66
 

@@ -28,8 +28,9 @@ abbrev pub NamesFirst : View → Result (Unit {0}) BookFault → Type 0
 NamesFirst b answer = (x y w : ℕ) → answer ≡ Err (Overload (b.now + x) (b.now + y) w)
     → FirstOverload horizon (demands b.now b.jobs) b.top x y × (w ≡ work (demands b.now b.jobs) x y)
 
--- an offer that passes its other checks is accepted just where some list of settings up to the top does the open work and the offered work,
--- and refused for overload just where none does; the refusal names the first interval that is overloaded with the offered job
+-- an offer that passes its other checks is accepted just where some list of settings up to the top does the open work
+-- and the offered work, and refused for overload just where none does; the refusal names the first interval that is
+-- overloaded with the offered job
 pub record OnlyOverload (b : View) (j : Job) (answer : Result (Unit {0}) BookFault) : Type 0 where
   pub accepted : IsOk answer ↔ ((early_fault b j ≡ None) × IsDoable (book_with_job b j))
   pub refused : IsOverloadRefusal answer ↔ ((early_fault b j ≡ None) × (IsDoable (book_with_job b j) → ⊥))

@@ -10,4 +10,5 @@ ready_job index j = record { deadline = j.deadline; ticket = j.ticket; index = i
 -- the jobs whose windows have begun, the first of the jobs at the place
 abbrev pub ready_jobs : ℕ → ℕ → List Job → List ReadyJob
 ready_jobs now index [] = []
-ready_jobs now index (j ∷ js) = (if nat_le j.arrival now then ready_job index j ∷ [] else []) ++ ready_jobs now (index + 1) js
+ready_jobs now index (j ∷ js) =
+    (if nat_le j.arrival now then ready_job index j ∷ [] else []) ++ ready_jobs now (index + 1) js

@@ -1,5 +1,6 @@
 -- What the call tick answers, the book that it leaves, and what its list holds afterwards.
-use Rattle.std.specs.Prelude.{◌≡◌, ℕ, ◌+◌, Bool, if◌then◌else◌, List, length, map, take, sum_by, Some, None, Ok, Err, Option, Result, ◌==◌, nat_lt}
+use Rattle.std.specs.Prelude.{◌≡◌, ℕ, ◌+◌, Bool, if◌then◌else◌, List, length, map, take, sum_by, Some, None}
+use Rattle.std.specs.Prelude.{Ok, Err, Option, Result, ◌==◌, nat_lt}
 use Rattle.std.specs.List.{filter, zip}
 use Rattle.schedule.specs.Edf.{serve}
 use Rattle.layout.specs.declared.job.Job.{Job}
@@ -47,7 +48,8 @@ tick_fault b list =
     if nat_lt (length list) 64 then Some (Short 64) else
     if b.now == last_tick then Some (LastTick b.now) else None
 
--- a tick serves the open jobs: it answers its setting and the count of entries, which stand in the first places of the list
+-- a tick serves the open jobs: it answers its setting and the count of entries, which stand in the first places of
+-- the list
 abbrev pub tick_outcome : View → List Entry → Outcome Served BookFault (List Entry)
 tick_outcome b list =
     let es = entries_of (shares_of b) in

@@ -19,7 +19,8 @@ fn total_draw<M: PowerModel>(model: &M, settings: &[u8; HORIZON]) -> u64
 impl Book {
     ghost use Rattle.book.specs.Bills.{bill_of};
 
-    /// What the settings in force draw under the model: the sum of its draws at the 256 settings, in the model's unit. It never refuses.
+    /// What the settings in force draw under the model: the sum of its draws at the 256 settings, in the model's
+    /// unit. It never refuses.
     ///
     /// ```text
     /// // Settings 2, 1 and then 0, where a setting draws its cube: 8 + 1 = 9.

@@ -51,7 +51,8 @@ fn write(blocks: &[RelativeBlock], now: u64, list: &mut [CriticalBlock]) -> usiz
 }
 
 impl Book {
-    /// Writes the critical blocks into the first places of the list, in the order of the rounds, and answers how many there are.
+    /// Writes the critical blocks into the first places of the list, in the order of the rounds, and answers how many
+    /// there are.
     ///
     /// # Refusals
     ///

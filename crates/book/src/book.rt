@@ -10,7 +10,8 @@ use std::marker::Model;
 
 /// The book: now, the top and the open jobs.
 ///
-/// Every book is lawful: the tickets of the open jobs differ, each has work left and a deadline in sight, and no interval is overloaded.
+/// Every book is lawful: the tickets of the open jobs differ, each has work left and a deadline in sight, and no
+/// interval is overloaded.
 #[derive(Debug, Drop)]
 pub struct Book {
     // Now. A field of that name would hide what a clause calls `self.now`.
@@ -74,7 +75,8 @@ impl Book {
     ///
     /// The book is as it was then.
     ///
-    /// - [`BookFault::Field`]: of the start, where it is after the last tick, 2^48 - 1; then of the top, where it is not 1 to
+    /// - [`BookFault::Field`]: of the start, where it is after the last tick, 2^48 - 1; then of the top, where it is
+    ///   not 1 to
     ///   255.
     ///
     /// ```text
@@ -141,11 +143,13 @@ impl Book {
     ///
     /// In this order; the book is as it was then.
     ///
-    /// - [`BookFault::Field`]: of the ticket, where it is 0; of the arrival, where it is before now; of the deadline, where it
+    /// - [`BookFault::Field`]: of the ticket, where it is 0; of the arrival, where it is before now; of the deadline,
+    ///   where it
     ///   is not after the arrival, more than 256 ticks from now or after the last tick; of the work, where it is 0.
     /// - [`BookFault::TicketOpen`]: an open job has the ticket.
     /// - [`BookFault::Full`]: 64 jobs are open.
-    /// - [`BookFault::Overload`]: with the job an interval is overloaded, so that no settings up to the top could do all work.
+    /// - [`BookFault::Overload`]: with the job an interval is overloaded, so that no settings up to the top could do
+    ///   all work.
     ///
     /// ```text
     /// book.offer(Job { ticket: 7, arrival: 0, deadline: 2, work: 3 })?;

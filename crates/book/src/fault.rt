@@ -36,7 +36,8 @@ pub enum BookFault {
     Short { needed: usize },
     /// Now is the last tick of all.
     LastTick { now: u64 },
-    /// The record with this number is the first that no lawful image, overload allowed, has after those before it; 65 where overload alone is wrong.
+    /// The record with this number is the first that no lawful image, overload allowed, has after those before it; 65
+    /// where overload alone is wrong.
     Image { number: usize },
 }
 

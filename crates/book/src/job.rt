@@ -44,10 +44,7 @@ pub(super) fn check_fields(job: &Job, now: u64) -> Result<(), BookField>
     if job.arrival < now {
         return Err(BookField::Arrival);
     }
-    if job.deadline <= job.arrival
-        || job.deadline > now + TICKS_AHEAD
-        || job.deadline > LAST_TICK
-    {
+    if job.deadline <= job.arrival || job.deadline > now + TICKS_AHEAD || job.deadline > LAST_TICK {
         return Err(BookField::Deadline);
     }
     if job.work == 0 {

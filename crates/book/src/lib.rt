@@ -1,5 +1,5 @@
-//! The book: now, the top and the open jobs, with all its calls. They open it, offer a job and strike one, write the settings in
-//! force, bill them, write the critical blocks, save an image of the book and load one, and serve a tick.
+//! The book: now, the top and the open jobs, with all its calls. They open it, offer a job and strike one, write the
+//! settings in force, bill them, write the critical blocks, save an image of the book and load one, and serve a tick.
 //!
 //! ```text
 //! let mut book = Book::new();

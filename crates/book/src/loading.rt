@@ -2,7 +2,8 @@
 ghost use Rattle.std.specs.Prelude.{◌≡◌, ◌≤◌, Some, None, [], length, if◌then◌else◌, map, take_while};
 ghost use Rattle.std.specs.Option.{option_map};
 ghost use Rattle.layout.specs.Jobs.{job_in, last_tick};
-ghost use Rattle.book.specs.Images.{top_in, now_in, can_be_open, is_job_record, is_clock, is_next_job, first_wrong_later, load_fault, book_in};
+ghost use Rattle.book.specs.Images.{top_in, now_in, can_be_open, is_job_record, is_clock, is_next_job};
+ghost use Rattle.book.specs.Images.{first_wrong_later, load_fault, book_in};
 ghost use Rattle.book.specs.Outcomes.{ok_unless};
 ghost use Rattle.book.specs.Reading.{leading_jobs};
 
@@ -76,7 +77,8 @@ fn leading_jobs(records: &[[u8; RECORD_LEN]], now: u64) -> Table
 fn read_jobs(records: &[[u8; RECORD_LEN]], now: u64) -> Result<Table, BookFault>
     requires in_time { now ≤ last_tick }
     requires few { length records.now ≤ 64 }
-    ensures { result ≡ ok_unless (option_map BookFault.Image (first_wrong_later now [] 1 records.now)) (map job_in (take_while is_job_record records.now)) }
+    ensures { result ≡ ok_unless (option_map BookFault.Image (first_wrong_later now [] 1 records.now))
+        (map job_in (take_while is_job_record records.now)) }
 {
     let jobs = leading_jobs(records, now);
     let count = jobs.jobs().len();
@@ -121,7 +123,8 @@ impl Book {
     /// The book is as it was then.
     ///
     /// - [`BookFault::Short`]: the list has fewer than 1560 places.
-    /// - [`BookFault::Image`]: by its number from 0, the first record that cannot stand where it does: no book, overload
+    /// - [`BookFault::Image`]: by its number from 0, the first record that cannot stand where it does: no book,
+    ///   overload
     ///   allowed, saves an image that begins with the records up to and with this one. Or 65: every record can stand, but
     ///   an interval is overloaded.
     ///

@@ -30,7 +30,8 @@ fn first_overload(demands: &Demands, top: u8) -> Option<(u16, u16)>
             if !starts_at(demands, start) {
                 continue;
             }
-            // By deadline: what is added up lies inside the interval to the demand's end. Demands with the same end may follow.
+            // By deadline: what is added up lies inside the interval to the demand's end. Demands with the same end
+            // may follow.
             let mut work = 0;
             for demand in demands.list {
                 if demand.from < start {

@@ -58,7 +58,8 @@ impl Book {
     pub fn settings(&self, list: &mut [u8]) -> Result<(), BookFault>
         ensures answer { result ≡ (settings_outcome self.entry.now list.old).answer }
         ensures list { list.new ≡ (settings_outcome self.entry.now list.old).list }
-        ensures in_force { OnOk result (InForce horizon (demands self.entry.now.now self.entry.now.jobs) (listed list.new)) }
+        ensures in_force { OnOk result
+            (InForce horizon (demands self.entry.now.now self.entry.now.jobs) (listed list.new)) }
     {
         if list.len() < HORIZON {
             return Err(BookFault::Short { needed: HORIZON });

@@ -12,7 +12,8 @@ use layout::Job;
 use std::fmt;
 use std::marker::Model;
 
-/// The places of a book: how many jobs can be open, and so how many entries a tick and how many blocks a question can write.
+/// The places of a book: how many jobs can be open, and so how many entries a tick and how many blocks a question can
+/// write.
 pub const PLACES: usize = planner::MOST_DEMANDS;
 
 // The open jobs in the order of serving.
@@ -131,7 +132,8 @@ impl Table {
         serve(&mut self.places[..self.count], now, setting, list)
     }
 
-    // Removes the jobs that have no work left. The others move up by index within the table, since its places are fixed and there is no heap.
+    // Removes the jobs that have no work left. The others move up by index within the table, since its places are
+    // fixed and there is no heap.
     pub(super) fn close_done(&mut self)
         ensures { self.new ≡ filter has_work self.old }
     {

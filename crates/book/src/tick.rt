@@ -50,7 +50,8 @@ fn ready_jobs<'a>(slots: &'a mut [ReadyJob; PLACES], jobs: &[Job], now: u64) -> 
     ready
 }
 
-// Serves the ready jobs until the setting is used up, with an entry for each that is served, and answers how many there are.
+// Serves the ready jobs until the setting is used up, with an entry for each that is served, and answers how many
+// there are.
 pub(super) fn serve(jobs: &mut [Job], now: u64, setting: u8, list: &mut [Entry]) -> usize
     requires few { length jobs.old ≤ 64 }
     requires room { 64 ≤ length list.old }
@@ -79,9 +80,9 @@ pub(super) fn serve(jobs: &mut [Job], now: u64, setting: u8, list: &mut [Entry])
 }
 
 impl Book {
-    /// Serves one tick: the first setting in force goes to the open jobs whose windows have begun, by earliest deadline, then
-    /// least ticket. Jobs with no work left close, and now rises by 1. Writes an entry into the list for each job that got
-    /// units, in the order of serving; their units add up to the setting.
+    /// Serves one tick: the first setting in force goes to the open jobs whose windows have begun, by earliest
+    /// deadline, then least ticket. Jobs with no work left close, and now rises by 1. Writes an entry into the list
+    /// for each job that got units, in the order of serving; their units add up to the setting.
     ///
     /// # Refusals
     ///

@@ -1,23 +1,23 @@
 -- What is promised at each moment holds where the tally and the book agree.
 use Rattle.std.proofs.Common.{◌≡◌, ℕ, ◌<◌, ◌≤◌, ◌∙◌, false, cond, inl, inr, List, [], ◌∷◌, length, map, drop, get_or, refl, sym, ap, subst, arith}
 use Rattle.std.specs.Prelude.{replicate, nat_lt}
-use Rattle.std.specs.List.{All, range_with_len, sum_by}
+use Rattle.std.specs.List.{All, range_with_len}
 use Rattle.std.specs.List.Sorted.{IsPermutation}
 use Rattle.std.proofs.lemmas.Bool.{cases_Bool}
 use Rattle.std.proofs.lemmas.Bool.Decides.{nat_tests}
 use Rattle.std.proofs.lemmas.List.{get_or_append_left, length-replicate}
 use Rattle.std.proofs.lemmas.List.FromFn.{get_or-map-range_with_len, length-map-range_with_len}
 use Rattle.std.proofs.lemmas.List.Elements.{All-head, All-tail, All-cons}
-use Rattle.std.proofs.lemmas.List.Sums.{sum_by-cons}
-use Rattle.std.proofs.lemmas.List.Sorted.{IsPermutation-sym, All-permutation, sum_by-IsPermutation}
+use Rattle.std.proofs.lemmas.List.Sorted.{IsPermutation-sym, IsPermutation-map, All-permutation}
 use Rattle.schedule.specs.Demands.{Sound}
-use Rattle.schedule.specs.Work.{inside, work, Fits}
+use Rattle.schedule.specs.Work.{work, Fits}
 use Rattle.schedule.specs.Sharing.{Does}
 use Rattle.schedule.specs.Settled.{Settled}
 use Rattle.schedule.specs.InForce.{horizon, Same}
 use Rattle.schedule.proofs.SettledLaws.{settled_same}
 use Rattle.schedule.proofs.SumsLaws.{upto_same}
 use Rattle.schedule.proofs.Theory.{theory}
+use Rattle.schedule.proofs.WorkLaws.{work_any_order}
 use Rattle.layout.specs.declared.job.Job.{Job}
 use Rattle.book.specs.Demands.{demand, demands}
 use Rattle.book.specs.Book.{View, IsOpenAt}
@@ -46,14 +46,10 @@ rows_in_time now (r ∷ rs) open_rows within = elim (cases_Bool (is_row_open r))
       (rows_in_time now rs later (All-tail (λ r. r.had ≤ r.job.work) r rs within))
 ]
 
--- the work of an interval is a sum over the jobs, in which their order counts for nothing
-work_sum : (now a b : ℕ) (js : List Job) → work (demands now js) a b ≡ sum_by (λ j. cond (inside a b (demand now j)) j.work 0) js
-work_sum now a b [] = refl
-work_sum now a b (j ∷ js) = omega (arith, work_sum now a b js, sum_by-cons (λ k. cond (inside a b (demand now k)) k.work 0) j js)
-
-pub work_any_order : (now a b : ℕ) (js ks : List Job) → IsPermutation js ks → work (demands now ks) a b ≡ work (demands now js) a b
-work_any_order now a b js ks same =
-    omega (arith, work_sum now a b js, work_sum now a b ks, sum_by-IsPermutation (λ j. cond (inside a b (demand now j)) j.work 0) js ks same)
+-- the work of an interval is that of jobs in whatever order
+jobs_any_order : (now a b : ℕ) (js ks : List Job) → IsPermutation js ks → work (demands now ks) a b ≡ work (demands now js) a b
+jobs_any_order now a b js ks same =
+    work_any_order (demands now js) (demands now ks) a b (IsPermutation-map (demand now) js ks same)
 
 -- settings that do the work of jobs do it in any order of the jobs
 pub does_any_order : (now : ℕ) (js ks : List Job) (s : ℕ → ℕ) → All (IsOpenAt now) ks → IsPermutation js ks → Does horizon (demands now js) s → Does horizon (demands now ks) s
@@ -61,7 +57,7 @@ does_any_order now js ks s open_at same does =
     let before : Sound horizon (demands now js) = sound-demands horizon now js theory.ticks (All-permutation (IsOpenAt now) ks js (IsPermutation-sym js ks same) open_at) in
     let after : Sound horizon (demands now ks) = sound-demands horizon now ks theory.ticks open_at in
     let fits : Fits horizon (demands now js) s = (theory.enough.does horizon (demands now js) s before).0 does in
-    (theory.enough.does horizon (demands now ks) s after).1 (λ a b lt le. omega (arith, fits a b lt le, work_any_order now a b js ks same))
+    (theory.enough.does horizon (demands now ks) s after).1 (λ a b lt le. omega (arith, fits a b lt le, jobs_any_order now a b js ks same))
 
 -- what the question settings writes, given room, are the settings of the book
 pub in_force_same : (b : View) → Same horizon (written_settings b) (settings_of b)

@@ -1,5 +1,6 @@
 -- What is promised of every life, at each of its moments and of each of its events.
-use Rattle.std.specs.Prelude.{◌≡◌, ℕ, ◌<◌, ◌≤◌, true, false, ◌⊎◌, List, [], ◌∷◌, length, replicate, All, Some, None, sum_by}
+use Rattle.std.specs.Prelude.{◌≡◌, ℕ, ◌<◌, ◌≤◌, true, false, ◌⊎◌, List, [], ◌∷◌, length, replicate, All, Some}
+use Rattle.std.specs.Prelude.{None, sum_by}
 use Rattle.power.specs.Laws.{Lawful}
 use Rattle.schedule.specs.Sharing.{Does}
 use Rattle.schedule.specs.Draws.{drawn}
@@ -13,7 +14,8 @@ use Rattle.book.specs.Book.{View, book_with_jobs}
 use Rattle.book.specs.Calls.{early_fault}
 use Rattle.book.specs.Offers.{UpTo, IsDoable}
 use Rattle.book.specs.Settings.{settings_outcome}
-use Rattle.life.specs.Events.{Call, offer, strike, tick, settings, blocks, bill, save, Answer, done, served, number, refused, Event, book_after}
+use Rattle.life.specs.Events.{Call, offer, strike, tick, settings, blocks, bill, save, Answer, done, served}
+use Rattle.life.specs.Events.{number, refused, Event, book_after}
 use Rattle.life.specs.Tally.{Row, Tally, is_row_open, open_jobs, book_of_tally, backlog, last_row, tally_after}
 use Rattle.life.specs.Life.{Life, beginning_outcome, tally_of}
 
@@ -26,11 +28,13 @@ pub record InTime (now : ℕ) (r : Row) : Type 0 where
   pub no_more : r.had ≤ r.job.work
   pub all_had : r.struck ≡ false → r.job.deadline ≤ now → r.had ≡ r.job.work
 
--- settings that do the open work in its windows, up to the top, and no other such settings draw less, under any draws that keep the laws of power models
+-- settings that do the open work in its windows, up to the top, and no other such settings draw less, under any draws
+-- that keep the laws of power models
 pub record Cheapest (t : Tally) (s : ℕ → ℕ) : Type 0 where
   pub up_to_top : UpTo t.top s
   pub does : Does horizon (backlog t) s
-  pub least : (D : ℕ → ℕ) → Lawful 255 D → (q : ℕ → ℕ) → UpTo t.top q → Does horizon (backlog t) q → drawn horizon D s ≤ drawn horizon D q
+  pub least : (D : ℕ → ℕ) → Lawful 255 D → (q : ℕ → ℕ) → UpTo t.top q → Does horizon (backlog t) q
+      → drawn horizon D s ≤ drawn horizon D q
 
 -- what is promised at each moment
 pub record Stands (t : Tally) (b : View) : Type 0 where
@@ -45,7 +49,8 @@ pub record GoesToOpen (t : Tally) (e : Entry) : Type 0 where
   pub begun : row.job.arrival ≤ t.now
   pub not_over : t.now < row.job.deadline
 
--- an accepted tick answers the first setting in force before it, its entries add up to that, and each goes to an open row
+-- an accepted tick answers the first setting in force before it, its entries add up to that, and each goes to an open
+-- row
 pub record ServesTick (t : Tally) (b : View) (s : Served) (es : List Entry) : Type 0 where
   pub first : s.setting ≡ written_settings b 0
   pub whole : sum_by (λ e. e.units) es ≡ s.setting
@@ -60,7 +65,8 @@ CanDo t j = IsDoable (book_with_jobs (j ∷ open_jobs t.rows) (book_of_tally t))
 abbrev pub IsOverloadAnswer : Answer → Type 0
 IsOverloadAnswer answer = (start : ℕ) × (end : ℕ) × (work : ℕ) × (answer ≡ refused (Overload start end work))
 
--- an offer that passes its checks of fields, of its ticket and of the places is refused for overload where no settings can do the work, and accepted otherwise
+-- an offer that passes its checks of fields, of its ticket and of the places is refused for overload where no
+-- settings can do the work, and accepted otherwise
 abbrev pub Admits : Tally → Job → Answer → Type 0
 Admits t j answer =
     early_fault (book_of_tally t) j ≡ None →
@@ -86,7 +92,8 @@ KeepsCall t b (save list) answer es = Unit {0}
 -- the promises, from a moment on, where the tally and the book are these
 abbrev pub KeepsFrom : Tally → View → List Event → Type 0
 KeepsFrom t b [] = Stands t b
-KeepsFrom t b (e ∷ es) = Stands t b × KeepsCall t b e.call e.answer e.entries × KeepsFrom (tally_after t e) (book_after b e.call) es
+KeepsFrom t b (e ∷ es) =
+    Stands t b × KeepsCall t b e.call e.answer e.entries × KeepsFrom (tally_after t e) (book_after b e.call) es
 
 -- the promises of a life
 abbrev pub Keeps : Life → Type 0

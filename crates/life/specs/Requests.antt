@@ -21,8 +21,10 @@ request_of (strike_record t) = Strike t
 request_of tick_record = Tick
 
 -- the outcome of a call of the book as that of a request: its answer told as a response, and the list
-abbrev pub outcome_told : {A L : Type 0} → (A → Response) → List Entry → Outcome A BookFault L → Outcome Response BookFault (List Entry)
-outcome_told response list o = record { answer = result_map_both response (λ fault. fault) o.answer; book = o.book; list = list }
+abbrev pub outcome_told : {A L : Type 0} → (A → Response) → List Entry → Outcome A BookFault L
+    → Outcome Response BookFault (List Entry)
+outcome_told response list o =
+    record { answer = result_map_both response (λ fault. fault) o.answer; book = o.book; list = list }
 
 -- an offer, a strike or a tick
 abbrev pub request_outcome : View → Request → List Entry → Outcome Response BookFault (List Entry)

@@ -1,5 +1,7 @@
--- The tally of a life. It sees each call with its arguments, its answer and the entries that it wrote, one after the other, and nothing else.
-use Rattle.std.specs.Prelude.{ℕ, ◌+◌, Bool, true, false, not, ◌&&◌, if◌then◌else◌, List, [], ◌∷◌, map, filter, find, Option, nat_lt}
+-- The tally of a life. It sees each call with its arguments, its answer and the entries that it wrote, one after the
+-- other, and nothing else.
+use Rattle.std.specs.Prelude.{ℕ, ◌+◌, Bool, true, false, not, ◌&&◌, if◌then◌else◌, List, [], ◌∷◌, map, filter}
+use Rattle.std.specs.Prelude.{find, Option, nat_lt}
 use Rattle.schedule.specs.Demands.{Demand}
 use Rattle.layout.specs.declared.job.Job.{Job}
 use Rattle.layout.specs.Jobs.{job_after}
@@ -8,9 +10,11 @@ use Rattle.book.specs.Jobs.{has_ticket}
 use Rattle.book.specs.Demands.{demands}
 use Rattle.book.specs.Book.{View}
 use Rattle.book.specs.Images.{book_in}
-use Rattle.life.specs.Events.{Call, offer, strike, tick, settings, blocks, bill, save, Answer, done, served, number, refused, Event}
+use Rattle.life.specs.Events.{Call, offer, strike, tick, settings, blocks, bill, save, Answer, done, served}
+use Rattle.life.specs.Events.{number, refused, Event}
 
--- an accepted offer, or a job of a loaded image: the job as it came, the units that it has had, and whether it was struck
+-- an accepted offer, or a job of a loaded image: the job as it came, the units that it has had, and whether it was
+-- struck
 pub record Row : Type 0 where
   pub job : Job
   pub had : ℕ
@@ -97,4 +101,6 @@ abbrev pub tally_of_open : (start top : ℕ) → Tally
 tally_of_open start top = record { now = start; top = top; rows = [] }
 
 abbrev pub tally_of_load : List ℕ → Tally
-tally_of_load list = record { now = (book_in list).now; top = (book_in list).top; rows = map row_of (book_in list).jobs }
+tally_of_load list =
+    let b = book_in list in
+    record { now = b.now; top = b.top; rows = map row_of b.jobs }

@@ -1,8 +1,8 @@
 //! The life of a book: the requests that a console makes of it, and what is promised of every life.
 //!
-//! A life begins with an accepted open or load. Then come any calls of offer, strike, tick and the questions. A tally is kept of
-//! what the calls ask, answer and write, and of nothing else; the promises are made of that tally. [`handle`] keeps them, for
-//! whatever life the book has had.
+//! A life begins with an accepted open or load. Then come any calls of offer, strike, tick and the questions. A tally
+//! is kept of what the calls ask, answer and write, and of nothing else; the promises are made of that tally.
+//! [`handle`] keeps them, for whatever life the book has had.
 //!
 //! ```text
 //! let mut book = Book::new();
@@ -83,15 +83,16 @@ impl Request {
     }
 }
 
-/// Makes the request of the book. The list is for the entries of a tick, which needs 64 places; the other requests leave it.
+/// Makes the request of the book. The list is for the entries of a tick, which needs 64 places; the other requests
+/// leave it.
 ///
-/// Every life that ends in the book as it was goes on with this call: it ends in the book as it is then, and keeps the three
-/// promises (`Keeps`, specs/Promises.antt).
+/// Every life that ends in the book as it was goes on with this call: it ends in the book as it is then, and keeps
+/// the three promises (`Keeps`, specs/Promises.antt).
 ///
 /// # Refusals
 ///
-/// Those of the book's own call, [`Book::offer`], [`Book::strike`] or [`Book::tick`]. The book and the list are as they were
-/// then.
+/// Those of the book's own call, [`Book::offer`], [`Book::strike`] or [`Book::tick`]. The book and the list are as
+/// they were then.
 ///
 /// ```text
 /// handle(&mut book, &Request::Strike { ticket: 7 }, &mut list)?; // Response::Struck { ticket: 7 }

@@ -1,5 +1,6 @@
 -- What the bench says of each record, worked with a book.
-use Rattle.std.specs.Prelude.{ℕ, ◌*◌, zero, suc, Bool, false, List, take, replicate, Some, None, Ok, Err, codes, Option, Result}
+use Rattle.std.specs.Prelude.{ℕ, ◌*◌, zero, suc, Bool, false, List, take, replicate, Some, None, Ok, Err}
+use Rattle.std.specs.Prelude.{codes, Option, Result}
 use Rattle.std.specs.Result.{result_map_both}
 use Rattle.layout.specs.declared.fault.ReadFault.{ReadFault}
 use Rattle.layout.specs.Content.{Content, label_of}
@@ -56,7 +57,8 @@ Step = Outcome (Option PlainLine) BenchFault (Unit {0})
 abbrev pub content_outcome : View → Content → Step
 content_outcome b c =
     let o = request_outcome b (request_of c) no_entries in
-    record { answer = result_map_both (λ response. Some (line_for b c response)) Book o.answer; book = o.book; list = tt }
+    let answer = result_map_both (λ response. Some (line_for b c response)) Book o.answer in
+    record { answer = answer; book = o.book; list = tt }
 
 -- a record that was read, or none at the end of the input, with a book
 abbrev pub read_outcome : View → Result (Option Content) ReadFault → Step

@@ -20,7 +20,8 @@ run_outcome r = outcome_at r.book r.input r.offset
 
 -- the run with that record passed and worked
 abbrev pub run_after_record : Run → Run
-run_after_record r = record { input = r.input; offset = offset_after r.input r.offset; book = (run_outcome r).book; over = r.over }
+run_after_record r =
+    record { input = r.input; offset = offset_after r.input r.offset; book = (run_outcome r).book; over = r.over }
 
 -- what is said of the next record
 abbrev pub next_line : Run → Option PlainLine

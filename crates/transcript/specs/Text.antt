@@ -12,7 +12,8 @@ entry_text e = spaced_number e.ticket ++ (codes ":" ++ decimal e.units)
 
 -- a tick
 abbrev pub tick_text : (now setting : ℕ) → List Entry → List ℕ
-tick_text now setting entries = codes "T" ++ (spaced_number now ++ (spaced_number setting ++ flat_map entry_text entries))
+tick_text now setting entries =
+    codes "T" ++ (spaced_number now ++ (spaced_number setting ++ flat_map entry_text entries))
 
 -- a line, without its line feed
 abbrev pub plain_line_text : PlainLine → List ℕ

@@ -54,13 +54,16 @@ pub record HasBlocks (b : View) (cs : List CriticalBlock) : Type 0 where
 
 -- given a list of 64 places, tick writes the entries es into the first places, and answers the setting and their number
 pub record TickServes (b : View) (setting : ℕ) (es : List Entry) : Type 0 where
-  pub answer : (list : List Entry) → length list ≡ 64 → (tick_outcome b list).answer ≡ Ok (record { setting = setting; count = length es })
+  pub answer : (list : List Entry) → length list ≡ 64
+      → (tick_outcome b list).answer ≡ Ok (record { setting = setting; count = length es })
   pub written : (list : List Entry) → length list ≡ 64 → take (length es) (tick_outcome b list).list ≡ es
 
--- an offer of the job is refused with the number 8, as the interval from start to end is overloaded by the work, and leaves the book as it was
+-- an offer of the job is refused with the number 8, as the interval from start to end is overloaded by the work, and
+-- leaves the book as it was
 pub record Overloads (b : View) (j : Job) (start end work : ℕ) : Type 0 where
   pub answer : (offer_outcome b j).answer ≡ Err (Overload start end work)
-  pub number : book_refusal (Overload start end work) ≡ record { layer = Book; number = 8; values = Three start end work }
+  pub number :
+      book_refusal (Overload start end work) ≡ record { layer = Book; number = 8; values = Three start end work }
   pub unchanged : (offer_outcome b j).book ≡ b
 
 -- a list of draws is refused with the number 12, as it breaks a law first at the setting

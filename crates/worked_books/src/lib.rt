@@ -1,6 +1,7 @@
 //! Worked books: eight small cases with what the calls answer for each, by numbers.
 //!
-//! The table stands in specs/WorkedBooks.antt. It is proved of the definitions that the contracts of the calls cite, so it is what the code answers too.
+//! The table stands in specs/WorkedBooks.antt. It is proved of the definitions that the contracts of the calls cite,
+//! so it is what the code answers too.
 #![tactic(auto)]
 
 ghost use Rattle.std.specs.Prelude.{◌≡◌};
