@@ -8,7 +8,7 @@ use Rattle.schedule.specs.Demands.{Demand}
 abbrev pub all_free : ℕ → Bool
 all_free t = true
 
--- the compressed time of t: the number of free ticks from now up to but not including t
+-- the compressed time of t: how many of the ticks before t are free
 abbrev pub compressed : (ℕ → Bool) → ℕ → ℕ
 compressed free t = upto (λ i. cond (free i) 1 0) t
 
