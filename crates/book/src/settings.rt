@@ -10,7 +10,7 @@ use super::demands::demands_of;
 use super::fault::BookFault;
 use super::job::Job;
 use super::table::PLACES;
-use planner::NO_DEMAND;
+use planner::Demand;
 
 /// How many settings are in force: one for each tick from now on.
 pub const SETTINGS: usize = planner::HORIZON;
@@ -23,7 +23,7 @@ fn settings_in_force(jobs: &[Job], now: u64) -> [u32; SETTINGS]
     ensures settings { Same horizon (listed result) (settings_in_force (demands now jobs.now)) }
     ensures in_force { InForce horizon (demands now jobs.now) (listed result) }
 {
-    let mut places = [NO_DEMAND; PLACES];
+    let mut places = [Demand::default(); PLACES];
     planner::settings(&demands_of(&mut places, jobs, now))
 }
 
