@@ -10,7 +10,7 @@ use super::book::Book;
 use super::demands::demands_of;
 use super::fault::BookFault;
 use super::table::PLACES;
-use planner::{NO_DEMAND, RelativeBlock, critical_blocks};
+use planner::{Demand, RelativeBlock, critical_blocks};
 
 /// A critical block: ticks with one exact speed. Ticks of other blocks may lie between its first and its last.
 #[derive(Clone, Copy, PartialEq, Eq, Debug, Default)]
@@ -73,7 +73,7 @@ impl Book {
         if list.len() < PLACES {
             return Err(BookFault::Short { needed: PLACES });
         }
-        let mut places = [NO_DEMAND; PLACES];
+        let mut places = [Demand::default(); PLACES];
         let demands = demands_of(&mut places, self.jobs.jobs(), self.tick);
         let blocks = critical_blocks(&demands);
         let count = write(blocks.list(), self.tick, list);

@@ -124,9 +124,8 @@ impl Book {
     ///
     /// - [`BookFault::Short`]: the list has fewer than 1560 places.
     /// - [`BookFault::Image`]: by its number from 0, the first record that cannot stand where it does: no book,
-    ///   overload
-    ///   allowed, saves an image that begins with the records up to and with this one. Or 65: every record can stand, but
-    ///   an interval is overloaded.
+    ///   overload allowed, saves an image that begins with the records up to and with this one. Or 65: every record
+    ///   can stand, but an interval is overloaded.
     ///
     /// ```text
     /// let image = [0; IMAGE_LEN];

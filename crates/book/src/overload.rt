@@ -11,7 +11,7 @@ use super::demands::demands_of;
 use super::fault::BookFault;
 use super::table::PLACES;
 use layout::Job;
-use planner::{Demands, HORIZON, NO_DEMAND};
+use planner::{Demand, Demands, HORIZON};
 
 // Whether a window starts at the tick.
 fn starts_at(demands: &Demands, start: u16) -> bool
@@ -55,7 +55,7 @@ pub(super) fn overload_fault(jobs: &[Job], now: u64, top: u8) -> Option<BookFaul
     requires open { All (IsOpenAt now) jobs.now }
     ensures { result ≡ overload_fault (record { now = now; top = top; jobs = jobs.now }) }
 {
-    let mut places = [NO_DEMAND; PLACES];
+    let mut places = [Demand::default(); PLACES];
     let demands = demands_of(&mut places, jobs, now);
     let (start, end) = first_overload(&demands, top)?;
     Some(BookFault::Overload {

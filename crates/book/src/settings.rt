@@ -10,7 +10,7 @@ use super::demands::demands_of;
 use super::fault::BookFault;
 use super::table::PLACES;
 use layout::Job;
-use planner::{HORIZON, NO_DEMAND};
+use planner::{Demand, HORIZON};
 
 // The settings in force for open jobs.
 fn settings_in_force(jobs: &[Job], now: u64) -> [u32; HORIZON]
@@ -20,7 +20,7 @@ fn settings_in_force(jobs: &[Job], now: u64) -> [u32; HORIZON]
     ensures settings { Same horizon (listed result) (settings_in_force (demands now jobs.now)) }
     ensures in_force { InForce horizon (demands now jobs.now) (listed result) }
 {
-    let mut places = [NO_DEMAND; PLACES];
+    let mut places = [Demand::default(); PLACES];
     planner::settings(&demands_of(&mut places, jobs, now))
 }
 

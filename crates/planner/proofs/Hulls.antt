@@ -1,4 +1,4 @@
--- A unit goes to the least loaded tick of its hull, and leaves a hull.
+-- A unit goes to the tick of its hull with the fewest units, and leaves a hull.
 use Rattle.std.proofs.Common.{◌≡◌, ℕ, ◌+◌, ◌-◌, ◌<◌, ◌≤◌, false, ◌&&◌, ◌||◌, eqb, ltb, List, [], ◌∷◌, length, sym, ap, subst, ◌∙◌, inl, inr, Option, None, Some, arith}
 use Rattle.std.specs.List.{AllByRecursion}
 use Rattle.std.proofs.ByRecursion.{all_shuffled}
@@ -10,13 +10,13 @@ use Rattle.queue.specs.Slots.{Slots, elements_of}
 use Rattle.queue.specs.Says.{Added, Removed, TakeLeaves}
 use Rattle.schedule.specs.Placing.{State, put, low_end, lowest_tick, spot, place_at, slack_after}
 use Rattle.schedule.proofs.Poised.{AtMost}
-use Rattle.schedule.proofs.Deadlines.{lowest_tick_is}
+use Rattle.schedule.proofs.Deadlines.{lowest_tick_is, low_end_begun}
 use Rattle.planner.specs.declared.hull.Hull.{Hull}
 use Rattle.planner.specs.Hull.{IsHull}
 use Rattle.planner.specs.Queued.{IsCurrent, IsQueued}
 use Rattle.planner.proofs.Queueing.{at_tick, queued_permuted, queued_tail, queued_again, queued_later}
 use Rattle.planner.proofs.Slots.{take_removed}
-use Rattle.planner.proofs.LowEnds.{low_end_begun, low_end_last, low_end_rises, low_end_stays}
+use Rattle.planner.proofs.LowEnds.{low_end_last, low_end_rises, low_end_stays}
 
 -- a queue with no tick is no hull's
 pub holds_ticks : {st : State} {h : Hull} → IsHull st h → (q : Slots PlannedTick) → IsQueued st.settings h.start h.to (elements_of q) → 0 < q.count
@@ -101,14 +101,14 @@ module _ {st : State} {h : Hull} {r : Slots PlannedTick} {x : PlannedTick} (t : 
   pub slack_before : h.start ≤ x.tick → (k : ℕ) → x.tick < k → k ≤ h.from → 0 < st.slack k
   slack_before late k xk kf = low_end_last st.slack h.from k (omega (arith, t.hull.start)) kf
 
-  -- a unit is placed there, and the tick is queued again
-  module _ (late : h.start ≤ x.tick) {after : State} (placed : after ≡ place_at h.from x.tick st) {p : Slots PlannedTick} (added : Added record { units = x.units + 1; tick = x.tick } r p) where
+  -- a unit is allocated there, and the tick is queued again
+  module _ (late : h.start ≤ x.tick) {after : State} (allocated : after ≡ place_at h.from x.tick st) {p : Slots PlannedTick} (added : Added record { units = x.units + 1; tick = x.tick } r p) where
     pub queued_after : IsQueued after.settings h.start h.to (elements_of p)
-    queued_after = subst (λ (s : State). IsQueued s.settings h.start h.to (elements_of p)) (sym placed)
+    queued_after = subst (λ (s : State). IsQueued s.settings h.start h.to (elements_of p)) (sym allocated)
         (queued_permuted (put st.settings x.tick) h.start h.to (record { units = x.units + 1; tick = x.tick } ∷ elements_of r) (elements_of p) added.holds (queued_again st.settings h.start h.to x (elements_of r) t.queued late))
 
     low_end_after : low_end after.slack h.from ≡ low_end (slack_after h.from x.tick st.slack) h.from
-    low_end_after = ap (λ (s : State). low_end s.slack h.from) placed
+    low_end_after = ap (λ (s : State). low_end s.slack h.from) allocated
 
     pub queued_risen : IsQueued after.settings (low_end after.slack h.from) h.to (elements_of p)
     queued_risen = queued_later after.settings h.start (low_end after.slack h.from) h.to (elements_of p)

@@ -1,17 +1,18 @@
--- The start of a hull: the last place without slack.
+-- The start of a hull: the last tick without slack.
 use Rattle.std.proofs.Common.{◌≡◌, ℕ, zero, suc, ◌+◌, ◌<◌, ◌≤◌, List, get_or, length, take, inl, inr, Option, None, Some, MatchOption, unwrap_or, refl, sym, ap, arith}
 use Rattle.std.proofs.lemmas.List.{get_or-take, length-take-le}
 use Rattle.std.proofs.lemmas.Bool.{cases_eq, cases_lt}
 use Rattle.std.proofs.lemmas.Bool.Decides.{nat_tests}
 use Rattle.schedule.specs.Certificate.{listed}
 use Rattle.schedule.specs.Placing.{low_end, slack_after}
+use Rattle.schedule.proofs.Deadlines.{low_end_begun, low_end_greatest}
 
--- a place without slack is the low end of itself
+-- a tick without slack is the low end of itself
 low_here : (g : ℕ → ℕ) (a : ℕ) → g a ≡ 0 → low_end g a ≡ a
 low_here g zero none = refl
 low_here g (suc a) none = grind (arith, nat_tests)
 
--- past a place the low end stays as long as there is slack
+-- past a tick the low end stays as long as there is slack
 low_past : (g : ℕ → ℕ) (a f : ℕ) → a ≤ f → ((k : ℕ) → a < k → k ≤ f → 0 < g k) → low_end g f ≡ low_end g a
 low_past g a zero le some = let e : zero ≡ a = omega arith in ap (low_end g) e
 low_past g a (suc f) le some = elim (cases_eq a (suc f)) [
@@ -19,7 +20,7 @@ low_past g a (suc f) le some = elim (cases_eq a (suc f)) [
   | inr other ↦ let here = some (suc f) (omega arith) (omega arith) in let rest = low_past g a f (omega arith) (λ k ak kf. some k ak (omega arith)) in grind (arith, nat_tests)
 ]
 
--- r is the last place of a 0 in a list, or none
+-- r is the last index of a 0 in a list, or none
 abbrev pub LastZero : List ℕ → Option ℕ → Type 0
 LastZero xs r = MatchOption r ((k : ℕ) → k < length xs → 0 < get_or xs k 0) (λ a. (a < length xs) × (get_or xs a 0 ≡ 0) × ((k : ℕ) → a < k → k < length xs → 0 < get_or xs k 0))
 
@@ -35,21 +36,11 @@ low_end_found xs f (Some a) within (af, none, some) =
       low_here (listed xs) a (omega (arith, get_or-take (f + 1) xs a 0 (omega (arith, size)))),
     ) refl)
 
-pub low_end_begun : (g : ℕ → ℕ) (f : ℕ) → low_end g f ≤ f
-low_end_begun g zero = omega arith
-low_end_begun g (suc f) = grind (arith, nat_tests, low_end_begun g f)
-
 -- there is slack past the low end
 pub low_end_last : (g : ℕ → ℕ) (f a : ℕ) → low_end g f < a → a ≤ f → 0 < g a
-low_end_last g zero a la af = absurd (omega arith)
-low_end_last g (suc f) a la af = elim (cases_eq (g (suc f)) 0) [
-  | inl none ↦ absurd (omega (arith, low_here g (suc f) none))
-  | inr some ↦
-      let e : low_end g (suc f) ≡ low_end g f = grind (arith, nat_tests) in
-      elim (cases_eq a (suc f)) [
-        | inl same ↦ omega (arith, ap g same)
-        | inr other ↦ low_end_last g f a (omega (arith, e)) (omega arith)
-      ]
+low_end_last g f a la af = elim (cases_eq (g a) 0) [
+  | inl none ↦ absurd (omega (arith, low_end_greatest g f a af none))
+  | inr some ↦ omega arith
 ]
 
 -- and none at it, but at 0

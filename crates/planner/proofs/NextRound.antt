@@ -14,7 +14,7 @@ use Rattle.schedule.proofs.RoundsEnd.{pairs_rounds, round_within}
 use Rattle.schedule.proofs.BlockFacts.{rounds_unique}
 use Rattle.schedule.proofs.Theory.{theory}
 use Rattle.planner.specs.declared.blocks.RelativeBlock.{RelativeBlock}
-use Rattle.planner.specs.Pair.{best_of}
+use Rattle.planner.specs.Pair.{best_pair_of}
 use Rattle.planner.specs.Ticks.{is_free_in, is_marked_in}
 use Rattle.planner.specs.Blocks.{block_of}
 use Rattle.planner.specs.Rounds.{blocks_to_come, AreLeft}
@@ -35,7 +35,7 @@ left_after free ds p proper left =
       free_left = non_empty_after horizon free p proper ds left.free_left;
     }
 
-pub next_round : (free : ℕ → Bool) (ds : List Demand) (p : Pair) → AreLeft free ds → Some p ≡ best_of (windows free ds) → Next free ds p
+pub next_round : (free : ℕ → Bool) (ds : List Demand) (p : Pair) → AreLeft free ds → Some p ≡ best_pair_of (windows free ds) → Next free ds p
 next_round free [] p left found = cc
 next_round free (d ∷ ds) p left found =
     let q = best_pair (seen (compressed free) d) (windows free (d ∷ ds)) in
@@ -58,12 +58,12 @@ pub record Steps (xs : List Bool) (ds : List Demand) (times : List ℕ) (p : Pai
   pub before : AreLeft (is_free_in xs) ds
   pub size : length xs ≡ 256
   pub table : (t : ℕ) → t ≤ 256 → listed times t ≡ compressed (is_free_in xs) t
-  pub best : Some p ≡ best_of (map (seen (listed times)) ds)
+  pub best : Some p ≡ best_pair_of (map (seen (listed times)) ds)
   pub marks_long : length marks ≡ 256
   pub marked : (t : ℕ) → t < 256 → is_marked_in marks t ≡ (is_free_in xs t && between p (listed times t))
   pub free_long : length ys ≡ 256
   pub freed : (t : ℕ) → t < 256 → is_free_in ys t ≡ (is_free_in xs t && not (is_marked_in marks t))
-  pub placed : es ≡ unplaced (listed times) p ds
+  pub kept : es ≡ unplaced (listed times) p ds
 
 module _ (xs : List Bool) (ds : List Demand) (times : List ℕ) (p : Pair) (marks ys : List Bool) (es : List Demand) (steps : Steps xs ds times p marks ys es) where
   windowed : NonEmpty 256 ds
@@ -73,7 +73,7 @@ module _ (xs : List Bool) (ds : List Demand) (times : List ℕ) (p : Pair) (mark
   windows_are = windows_by (is_free_in xs) times steps.table ds windowed
 
   next : Next (is_free_in xs) ds p
-  next = next_round (is_free_in xs) ds p steps.before (steps.best ∙ ap best_of windows_are)
+  next = next_round (is_free_in xs) ds p steps.before (steps.best ∙ ap best_pair_of windows_are)
 
   within : p.high ≤ compressed (is_free_in xs) 256
   within = subst (λ n. p.high ≤ compressed (is_free_in xs) n) theory.ticks next.within
@@ -85,7 +85,7 @@ module _ (xs : List Bool) (ds : List Demand) (times : List ℕ) (p : Pair) (mark
   free_are = free_by xs times p steps.size steps.table within marks ys steps.free_long taken_are steps.freed
 
   rest_are : es ≡ unplaced (compressed (is_free_in xs)) p ds
-  rest_are = steps.placed ∙ unplaced_by (is_free_in xs) times steps.table p ds windowed
+  rest_are = steps.kept ∙ unplaced_by (is_free_in xs) times steps.table p ds windowed
 
   pub steps_leave : AreLeft (is_free_in ys) es
   steps_leave = rw (free_are, rest_are) next.left

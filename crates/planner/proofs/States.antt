@@ -12,9 +12,9 @@ use Rattle.planner.specs.Plan.{state_of}
 
 -- a plan that holds the numbers of a state is that state
 pub state_same : (p : Plan) (st : State) → ((t : ℕ) → get_or p.units t 0 ≡ st.settings t) → ((t : ℕ) → get_or p.slack t 0 ≡ st.slack t) → state_of p ≡ st
-state_same p st loads slack = λ i. record { settings = fun_ext loads i; slack = fun_ext slack i }
+state_same p st units slack = λ i. record { settings = fun_ext units i; slack = fun_ext slack i }
 
--- a plan of zeros has nothing placed
+-- a plan of zeros has nothing allocated
 zero_at : (n t : ℕ) → listed (replicate n 0) t ≡ 0
 zero_at n t = elim (cases_lt t n) [
   | inl lt ↦ get_or-replicate n t 0 0 lt
@@ -24,18 +24,18 @@ zero_at n t = elim (cases_lt t n) [
 pub zeros_empty : state_of record { units = replicate 256 0; slack = replicate 256 0 } ≡ empty
 zeros_empty = state_same record { units = replicate 256 0; slack = replicate 256 0 } empty (zero_at 256) (zero_at 256)
 
--- one more at one place
+-- one more at one index
 put_written : (xs : List ℕ) (u t : ℕ) → u < length xs → get_or (set xs u (get_or xs u 0 + 1)) t 0 ≡ put (listed xs) u t
 put_written xs u t within = elim (cases_eq t u) [
   | inl same ↦ rw same (grind (arith, nat_tests, get_or-set_same xs u (get_or xs u 0 + 1) 0 within))
   | inr other ↦ grind (arith, nat_tests, get_or-set_other xs u t (get_or xs u 0 + 1) 0 other)
 ]
 
-pub placed : (p : Plan) (f u : ℕ) (slack : List ℕ) → u < length p.units → ((t : ℕ) → get_or slack t 0 ≡ slack_after f u (listed p.slack) t)
+pub allocated : (p : Plan) (f u : ℕ) (slack : List ℕ) → u < length p.units → ((t : ℕ) → get_or slack t 0 ≡ slack_after f u (listed p.slack) t)
     → state_of record { units = set p.units u (get_or p.units u 0 + 1); slack = slack } ≡ place_at f u (state_of p)
-placed p f u slack within after = state_same record { units = set p.units u (get_or p.units u 0 + 1); slack = slack } (place_at f u (state_of p)) (λ t. put_written p.units u t within) after
+allocated p f u slack within after = state_same record { units = set p.units u (get_or p.units u 0 + 1); slack = slack } (place_at f u (state_of p)) (λ t. put_written p.units u t within) after
 
--- a part of a list, from a up to b, is written anew: g of what was at each place
+-- a part of a list, from a up to b, is written anew: g of what was at each index
 module _ (g : ℕ → ℕ) (a b : ℕ) (xs ys : List ℕ) (within : b ≤ length xs) (ab : a ≤ b) (size : length ys ≡ length (mid_of a (b - a) xs))
     (each : (k : ℕ) → k < length (mid_of a (b - a) xs) → get_or ys k 0 ≡ g (get_or (mid_of a (b - a) xs) k 0)) where
   part_size : length (mid_of a (b - a) xs) ≡ b - a

@@ -54,7 +54,7 @@ module _ (xs : List Bool) (i : ℕ) (b more : Bool) (within : i < length xs) whe
   pub and_not_free : get_or xs i false ≡ false → b ≡ get_or xs i false → b ≡ (is_free_in xs i && more)
   and_not_free taken is = let here : is_free_in xs i ≡ false = get_or_default xs i true false within ∙ taken in rw here (is ∙ taken)
 
--- r is the place of the first mark, or none
+-- r is the index of the first mark, or none
 abbrev pub FirstMark : List Bool → Option ℕ → Type 0
 FirstMark xs r = MatchOption r ((k : ℕ) → k < length xs → get_or xs k false ≡ false) (λ a. (a < length xs) × (get_or xs a false ≡ true) × ((k : ℕ) → k < a → get_or xs k false ≡ false))
 
@@ -79,7 +79,7 @@ pub first_found : (xs : List Bool) (r : Option ℕ) → FirstMark xs r → unwra
 first_found xs None none = sym (first_tick_none (is_marked_in xs) (length xs) none)
 first_found xs (Some a) (an, here, early) = sym (first_tick_at (is_marked_in xs) (length xs) a an here early)
 
--- r is the place of the last mark, or none
+-- r is the index of the last mark, or none
 abbrev pub LastMark : List Bool → Option ℕ → Type 0
 LastMark xs r = MatchOption r ((k : ℕ) → k < length xs → get_or xs k false ≡ false) (λ a. (a < length xs) × (get_or xs a false ≡ true) × ((k : ℕ) → a < k → k < length xs → get_or xs k false ≡ false))
 

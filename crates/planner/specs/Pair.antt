@@ -13,6 +13,6 @@ abbrev pub IsCounted : List Demand → Pair → Type 0
 IsCounted ws p = p.work ≡ pair_work ws (times_of p)
 
 -- the best pair from a start to an end of windows, where there are any
-abbrev pub best_of : List Demand → Option Times
-best_of [] = None
-best_of (w ∷ ws) = Some (best_pair w (w ∷ ws))
+abbrev pub best_pair_of : List Demand → Option Times
+best_pair_of [] = None
+best_pair_of (w ∷ ws) = Some (best_pair w (w ∷ ws))

@@ -7,7 +7,7 @@ use Rattle.queue.specs.declared.ticks.PlannedTick.{PlannedTick}
 abbrev pub copy_count : ℕ → List PlannedTick → ℕ
 copy_count t xs = count_by (λ x. t == x.tick) xs
 
--- what is queued is a tick before `to`, with the units that are placed in it
+-- what is queued is a tick before `to`, with the units that are allocated to it
 abbrev pub IsCurrent : (ℕ → ℕ) → ℕ → PlannedTick → Type 0
 IsCurrent s to x = (x.units ≡ s x.tick) × (x.tick < to)
 

@@ -12,7 +12,7 @@ use Rattle.planner.specs.Blocks.{block_of}
 abbrev pub blocks_to_come : (ℕ → Bool) → List Demand → List RelativeBlock
 blocks_to_come free ds = map block_of (blocks_of horizon free ds (pairs (length ds) free ds))
 
--- what holds of the demands that are not yet placed: each has work left, and a free tick in its window
+-- what holds of the demands that are left: each has work left, and a free tick in its window
 pub record AreLeft (free : ℕ → Bool) (ds : List Demand) : Type 0 where
   pub windowed : NonEmpty horizon ds
   pub all_open : AllOpen ds

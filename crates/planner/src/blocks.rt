@@ -8,29 +8,23 @@ use super::demands::{Demands, MOST_DEMANDS};
 use super::rounds::Rounds;
 use std::marker::Model;
 
-/// A critical block: ticks with the same exact speed. They count from now.
-#[derive(Clone, Copy, PartialEq, Eq, Debug)]
+/// A critical block seen from now: ticks with the same exact speed. Ticks of other blocks can lie between them, so
+/// that its length is not always the distance of its ends.
+#[derive(Clone, Copy, PartialEq, Eq, Debug, Default)]
 pub struct RelativeBlock {
-    /// The exact speed: the block's work, and its length in ticks.
+    /// The exact speed, in units a tick: the block's work in units, over its length in ticks.
     pub speed: (u32, u16),
-    /// The first tick.
+    /// Its first tick, counted from now.
     pub from: u16,
-    /// The tick after the last.
+    /// The tick after its last, counted from now.
     pub to: u16,
 }
-
-// What stands in a place that no block takes.
-const NO_BLOCK: RelativeBlock = RelativeBlock {
-    speed: (0, 0),
-    from: 0,
-    to: 0,
-};
 
 /// Critical blocks, at most 64, in the order of the rounds.
 #[derive(Drop)]
 pub struct RelativeBlocks {
-    places: [RelativeBlock; MOST_DEMANDS],
-    // How many there are: they stand in the first places, and what the others hold means nothing.
+    blocks: [RelativeBlock; MOST_DEMANDS],
+    // How many there are: they come first, and what stands after them means nothing.
     count: usize,
 }
 
@@ -40,7 +34,7 @@ impl Model for RelativeBlocks {
 
     ghost Value = { List RelativeBlock };
 
-    ghost view = { λ b. take b.count b.places };
+    ghost view = { λ b. take b.count b.blocks };
 
     ghost invariant = { λ b. b.count ≤ 64 };
 }
@@ -51,7 +45,7 @@ impl RelativeBlocks {
         ensures { result ≡ [] }
     {
         RelativeBlocks {
-            places: [NO_BLOCK; MOST_DEMANDS],
+            blocks: [RelativeBlock::default(); MOST_DEMANDS],
             count: 0,
         }
     }
@@ -61,20 +55,31 @@ impl RelativeBlocks {
         requires { length self.old < 64 }
         ensures { self.new ≡ self.old ++ block ∷ [] }
     {
-        self.places[self.count] = block;
+        self.blocks[self.count] = block;
         self.count += 1;
     }
 
-    /// The blocks.
+    /// The blocks, in the order of the rounds: none has a greater speed than one before it. It never refuses.
+    ///
+    /// ```text
+    /// // planner_tests: examples::of_critical_blocks
+    /// critical_blocks(&demands).list().len();   // 2
+    /// ```
     pub fn list(&self) -> &[RelativeBlock]
         ensures blocks { result.now ≡ self.now }
         ensures few { length self.now ≤ 64 }
     {
-        &self.places[..self.count]
+        &self.blocks[..self.count]
     }
 }
 
-/// The critical blocks of the demands that have work left.
+/// The critical blocks of the demands that have work left. It never refuses.
+///
+/// ```text
+/// // planner_tests: examples::of_critical_blocks, for [0, 2) with 3 units and [0, 3) with 1
+/// // RelativeBlock { speed: (3, 2), from: 0, to: 2 } and RelativeBlock { speed: (1, 1), from: 2, to: 3 }
+/// critical_blocks(&demands);
+/// ```
 pub fn critical_blocks(demands: &Demands) -> RelativeBlocks
     ensures blocks { result ≡ critical_blocks demands.now }
     ensures critical { Blocked horizon (open_demands demands.now) }

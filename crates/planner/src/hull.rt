@@ -1,4 +1,4 @@
-// The hull of a window: where one unit more of it can go.
+// The hull of a window: where one unit more of it can be allocated.
 ghost use Rattle.std.specs.Prelude.{◌≡◌, ◌<◌, ◌≤◌};
 ghost use Rattle.schedule.specs.Placing.{place_at, spot};
 
@@ -6,8 +6,8 @@ use super::demands::HORIZON;
 use super::plan::Plan;
 use queue::{PlannedTick, TickQueue};
 
-// The hull of the window [from, to): the ticks from its start to the end of the window. They are queued, the least loaded
-// first; ticks before the start may be queued too.
+// The hull of the window [from, to): the ticks from its start to the end of the window. They are queued, the one with
+// the fewest units first; ticks before the start may be queued too.
 #[derive(Drop)]
 pub(super) struct Hull<'a> {
     from: usize,
@@ -49,11 +49,11 @@ impl<'a> Hull<'a> {
         }
     }
 
-    // One unit more of the window is placed, at the least loaded tick of the hull.
+    // Allocates one unit more of the window, to the tick of the hull with the fewest units.
     pub(super) fn allocate_unit(&mut self, plan: &mut Plan)
         requires hull { IsHull (state_of plan.old) self.old }
         requires room { HasRoom 1 (state_of plan.old) }
-        ensures placed { state_of plan.new ≡ place_at self.old.from (spot self.old.from self.old.to (state_of plan.old)) (state_of plan.old) }
+        ensures allocated { state_of plan.new ≡ place_at self.old.from (spot self.old.from self.old.to (state_of plan.old)) (state_of plan.old) }
         ensures hull { IsHull (state_of plan.new) self.new }
         ensures window { (self.new.from ≡ self.old.from) × (self.new.to ≡ self.old.to) }
     {

@@ -45,8 +45,8 @@ impl Pair {
         self.low <= time && time < self.high
     }
 
-    // Whether it goes before the other: it has more work over length; or as much, and starts earlier; or starts there too, and
-    // ends later.
+    // Whether it goes before the other: it has more work over length; or as much, and starts earlier; or starts there
+    // too, and ends later.
     pub(super) fn beats(&self, other: &Pair) -> bool
         ensures { result ≡ beats self.now.work (times_of self.now) other.now.work (times_of other.now) }
     {

@@ -1,18 +1,18 @@
-// The units placed so far.
+// The units allocated so far.
 ghost use Rattle.std.specs.Prelude.{◌≡◌, ℕ, ◌+◌, ◌-◌, ◌^◌, ◌<◌, ◌≤◌, length, slice_index};
 ghost use Rattle.schedule.specs.Placing.{empty, low_end, place_at};
 
 use super::demands::HORIZON;
 
-// The units that are placed in each tick so far, and the slack at each tick: by how much the units placed from there on exceed
-// those of the windows that start there or later.
+// The units that are allocated to each tick so far, and the slack at each tick: by how much the units allocated from
+// there on exceed those of the windows that start there or later.
 #[derive(Drop)]
 pub(super) struct Plan {
     pub(super) units: [u32; HORIZON],
     slack: [u32; HORIZON],
 }
 
-// One slack more at each place.
+// Adds one to each slack.
 fn raise(slack: &mut [u32])
     requires { (k : ℕ) → slice_index slack.old k + 1 < 2 ^ 32 }
     ensures { (k : ℕ) → k < length slack.old → slice_index slack.new k ≡ slice_index slack.old k + 1 }
@@ -22,7 +22,7 @@ fn raise(slack: &mut [u32])
     }
 }
 
-// One slack less at each place.
+// Takes one from each slack.
 fn lower(slack: &mut [u32])
     requires { (k : ℕ) → k < length slack.old → 0 < slice_index slack.old k }
     ensures { (k : ℕ) → k < length slack.old → slice_index slack.new k ≡ slice_index slack.old k - 1 }
@@ -35,7 +35,7 @@ fn lower(slack: &mut [u32])
 impl Plan {
     ghost use Rattle.planner.specs.Plan.{state_of, HasRoom};
 
-    // A plan in which nothing is placed yet.
+    // A plan in which nothing is allocated yet.
     pub(super) fn new() -> Plan
         ensures { state_of result ≡ empty }
     {
@@ -56,7 +56,7 @@ impl Plan {
             .unwrap_or(0)
     }
 
-    // A unit of a window that starts at `from` is placed at the tick.
+    // Allocates a unit of a window that starts at `from` to the tick.
     pub(super) fn allocate(&mut self, from: usize, tick: usize)
         requires window { from < 256 }
         requires tick { tick < 256 }

@@ -1,4 +1,4 @@
-// The rounds of critical blocks: each places demands and takes their ticks, until no demand is left.
+// The rounds of critical blocks: each removes demands and takes their ticks, until no demand is left.
 ghost use Rattle.std.specs.Prelude.{◌≡◌, ◌<◌, ◌≤◌, length, map, take, MatchOption, ◌∷◌, []};
 ghost use Rattle.std.specs.List.{AllByRecursion};
 ghost use Rattle.schedule.specs.Certificate.{listed};
@@ -12,7 +12,7 @@ ghost use Rattle.planner.specs.Plannable.{IsPlannable};
 ghost use Rattle.planner.specs.Blocks.{critical_blocks};
 
 use super::blocks::RelativeBlock;
-use super::demands::{Demand, Demands, HORIZON, MOST_DEMANDS, NO_DEMAND};
+use super::demands::{Demand, Demands, HORIZON, MOST_DEMANDS};
 use super::pair::Pair;
 use super::search::best_pair;
 use super::ticks::{compressed_times, first_tick, past_tick, take_ticks, taken_ticks};
@@ -32,20 +32,20 @@ impl Demand {
     }
 }
 
-// The demands in compressed time, in the first places.
+// The demands in compressed time, with empty ones after them.
 fn windows(demands: &[Demand], times: &[u16; HORIZON + 1]) -> [Demand; MOST_DEMANDS]
     requires few { length demands.now ≤ 64 }
     requires within { AllByRecursion (λ d. (d.from < d.to) × (d.to ≤ 256)) demands.now }
     ensures { take (length demands.now) result ≡ map (seen (listed times.now)) demands.now }
 {
-    let mut windows = [NO_DEMAND; MOST_DEMANDS];
+    let mut windows = [Demand::default(); MOST_DEMANDS];
     for (index, demand) in demands.iter().enumerate() {
         windows[index] = demand.seen(times);
     }
     windows
 }
 
-// Places the demands that lie inside the pair: the others go to the first places, and their number is answered.
+// Removes the demands that lie inside the pair: the others come first, and their number is answered.
 fn remove_inside(demands: &mut [Demand], times: &[u16; HORIZON + 1], pair: &Pair) -> usize
     requires within { AllByRecursion (λ d. (d.from < d.to) × (d.to ≤ 256)) demands.old }
     ensures left { take result demands.new ≡ unplaced (listed times.now) (times_of pair.now) demands.old }
@@ -63,7 +63,7 @@ fn remove_inside(demands: &mut [Demand], times: &[u16; HORIZON + 1], pair: &Pair
 }
 
 // The block of a round, by its pair and the ticks that it takes.
-fn block_of(pair: &Pair, taken: &[bool; HORIZON]) -> RelativeBlock
+fn round_block(pair: &Pair, taken: &[bool; HORIZON]) -> RelativeBlock
     ensures speed { result.speed ≡ (pair.now.work, extent (times_of pair.now)) }
     ensures from { result.from ≡ first_tick (is_marked_in taken.now) (length taken.now) }
     ensures to { result.to ≡ past_tick (is_marked_in taken.now) (length taken.now) }
@@ -80,9 +80,9 @@ fn block_of(pair: &Pair, taken: &[bool; HORIZON]) -> RelativeBlock
 pub(super) struct Rounds {
     // Which ticks are free.
     free: [bool; HORIZON],
-    // The demands that are not yet placed.
+    // The demands that are left.
     demands: [Demand; MOST_DEMANDS],
-    // How many they are: they stand in the first places, and what the others hold means nothing.
+    // How many they are: they come first, and what stands after them means nothing.
     count: usize,
 }
 
@@ -105,7 +105,7 @@ impl Rounds {
         ensures blocks { result ≡ critical_blocks demands.now }
         ensures plannable { IsPlannable demands.now }
     {
-        let mut open = [NO_DEMAND; MOST_DEMANDS];
+        let mut open = [Demand::default(); MOST_DEMANDS];
         let mut count = 0;
         for demand in demands.list {
             if demand.units > 0 {
@@ -120,7 +120,7 @@ impl Rounds {
         }
     }
 
-    // The block of the next round, or none where every demand is placed.
+    // The block of the next round, or none where no demand is left.
     pub(super) fn next_block(&mut self) -> Option<RelativeBlock>
         ensures { MatchOption result (self.old ≡ []) (λ block. self.old ≡ block ∷ self.new) }
     {
@@ -130,6 +130,6 @@ impl Rounds {
         let taken = taken_ticks(&self.free, &times, &pair);
         take_ticks(&mut self.free, &taken);
         self.count = remove_inside(&mut self.demands[..self.count], &times, &pair);
-        Some(block_of(&pair, &taken))
+        Some(round_block(&pair, &taken))
     }
 }

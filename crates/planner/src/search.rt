@@ -3,7 +3,7 @@ ghost use Rattle.std.specs.Prelude.{◌≡◌, ◌<◌, ◌≤◌, length, IfSom
 ghost use Rattle.std.specs.Option.{option_map};
 ghost use Rattle.std.specs.List.{AllByRecursion};
 ghost use Rattle.schedule.specs.BestPair.{better, best_end};
-ghost use Rattle.planner.specs.Pair.{times_of, IsCounted, best_of};
+ghost use Rattle.planner.specs.Pair.{times_of, IsCounted, best_pair_of};
 
 use super::demands::Demand;
 use super::pair::Pair;
@@ -42,7 +42,7 @@ fn best_end(windows: &[Demand], low: u16, so_far: Pair) -> Pair
 pub(super) fn best_pair(windows: &[Demand]) -> Option<Pair>
     requires few { length windows.now ≤ 64 }
     requires proper { AllByRecursion (λ w. w.from < w.to) windows.now }
-    ensures pair { option_map times_of result ≡ best_of windows.now }
+    ensures pair { option_map times_of result ≡ best_pair_of windows.now }
     ensures work { IfSome result (IsCounted windows.now) }
 {
     let first = windows.first()?;

@@ -10,7 +10,7 @@ ghost use Rattle.planner.specs.Blocks.{open_demands, critical_blocks};
 ghost use Rattle.planner_c.specs.Jobs.{demands};
 ghost use Rattle.planner_c.specs.Found.{found_blocks};
 
-use planner::{Demand, Demands, HORIZON, MOST_DEMANDS, NO_DEMAND, critical_blocks, settings};
+use planner::{Demand, Demands, HORIZON, MOST_DEMANDS, critical_blocks, settings};
 
 /// An open job seen from now: its window [from, to) in ticks from now, and its work left.
 // Of the same fields as `Demand`, which has a `Model`: no such type crosses to C.
@@ -83,7 +83,7 @@ pub extern "C" fn planner_settings(jobs: &[Job], found: &mut Settings) -> u32
     ensures in_force { result ≡ 0 → InForce horizon (demands jobs.now) (listed found.new.ticks) }
     ensures unchanged { 0 < result → found.new ≡ found.old }
 {
-    let mut places = [NO_DEMAND; MOST_DEMANDS];
+    let mut places = [Demand::default(); MOST_DEMANDS];
     let demands = match demands_of(jobs, &mut places) {
         Ok(demands) => demands,
         Err(why) => return why,
@@ -128,7 +128,7 @@ pub extern "C" fn planner_blocks(jobs: &[Job], found: &mut Blocks) -> u32
     ensures critical { result ≡ 0 → Blocked horizon (open_demands (demands jobs.now)) }
     ensures unchanged { 0 < result → found.new ≡ found.old }
 {
-    let mut places = [NO_DEMAND; MOST_DEMANDS];
+    let mut places = [Demand::default(); MOST_DEMANDS];
     let demands = match demands_of(jobs, &mut places) {
         Ok(demands) => demands,
         Err(why) => return why,

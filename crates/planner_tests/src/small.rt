@@ -1,4 +1,5 @@
-// Small books and their settings in force, as tests/schedule.py found them by a search through all lists; the last one is worked out by hand.
+// Small books and their settings in force, as tests/schedule.py found them by a search through all lists; the last one
+// is worked out by hand.
 use super::samples::{check_settings, demand};
 
 #[test]

@@ -1,7 +1,8 @@
 //! Power models: what a processor draws at each clock setting.
 //!
-//! A model is 256 numbers D(0) to D(255), each at most 4,294,967,295. Asked for the draw of a setting s it answers
-//! D(s); it never refuses, and stays the same. D never falls as s rises, and D(s) + D(s - 2) is at least 2 D(s - 1).
+//! A model has a number of 32 bits for each setting, its draw, and answers it as often as it is asked. From one
+//! setting to the next the draw rises or stays, and by no less than from the one before: with the draws 3, 5 and 7 the
+//! next one is 9 or more.
 //!
 //! | model | its draw at s |
 //! |---|---|

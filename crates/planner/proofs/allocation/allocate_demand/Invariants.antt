@@ -2,7 +2,7 @@ use Rattle.std.proofs.Common.{◌≡◌, ◌-◌}
 use Rattle.schedule.specs.Placing.{fill}
 use Rattle.planner.specs.Plan.{state_of, HasRoom}
 use Rattle.planner.specs.Hull.{IsHull}
-use Rattle.planner.proofs.fill.Given as goal
+use Rattle.planner.proofs.allocation.allocate_demand.Given as goal
 
 abbrev pub invariant-loop : goal.invariant-loop
 invariant-loop l = record {

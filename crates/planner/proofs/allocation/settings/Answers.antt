@@ -2,7 +2,7 @@ use Rattle.std.proofs.Common.{◌∙◌, sym, ap, arith}
 use Rattle.schedule.specs.Placing.{run}
 use Rattle.planner.specs.Plan.{state_of}
 use Rattle.planner.proofs.Runs.{empty_room, demand_room, demand_run, window, all_run, units_same, units_in_force}
-use Rattle.planner.proofs.settings.Goals as goal
+use Rattle.planner.proofs.allocation.settings.Goals as goal
 
 pub loop-demand-init : goal.loop-demand-init
 loop-demand-init c = record { room = empty_room (state_of c.new-plan.result) c.new-plan.ensures; rest = ap (run c.demands.inside.list.now) c.new-plan.ensures }
@@ -13,14 +13,14 @@ loop-demand-preserved c =
     let i = c.loop-demand.demand-index in
     let d = c.demand-item.result in
     let st = state_of c.loop-demand.plan in
-    let after = state_of c.fill.new.plan in
+    let after = state_of c.allocate_demand.new.plan in
     record {
-      room = demand_room ds i d st after c.fill.ensures.filled (omega arith) c.fill.ensures.units c.loop-demand.invariant.room;
-      rest = demand_run ds i d st after c.fill.ensures.filled c.loop-demand-test.true c.demand-item.is ∙ c.loop-demand.invariant.rest;
+      room = demand_room ds i d st after c.allocate_demand.ensures.filled (omega arith) c.allocate_demand.ensures.units c.loop-demand.invariant.room;
+      rest = demand_run ds i d st after c.allocate_demand.ensures.filled c.loop-demand-test.true c.demand-item.is ∙ c.loop-demand.invariant.rest;
     }
 
-pub fill-requires-clause-window : goal.fill-requires-clause-window
-fill-requires-clause-window c = window c.demands.inside.list.now c.loop-demand.demand-index c.demand-item.result c.demands.invariant c.loop-demand-test.true c.demand-item.is
+pub allocate_demand-requires-clause-window : goal.allocate_demand-requires-clause-window
+allocate_demand-requires-clause-window c = window c.demands.inside.list.now c.loop-demand.demand-index c.demand-item.result c.demands.invariant c.loop-demand-test.true c.demand-item.is
 
 pub returns : goal.returns
 returns c =

@@ -1,7 +1,7 @@
 use Rattle.std.proofs.Common.{◌≡◌, ◌*◌, ◌-◌, drop}
 use Rattle.schedule.specs.Placing.{run, empty}
 use Rattle.planner.specs.Plan.{state_of, HasRoom}
-use Rattle.planner.proofs.settings.Given as goal
+use Rattle.planner.proofs.allocation.settings.Given as goal
 
 abbrev pub invariant-loop-demand : goal.invariant-loop-demand
 invariant-loop-demand l = record {

@@ -18,6 +18,6 @@ loop-index-preserved c =
           let left : not (lies (seen (listed c.args.times.now) d)) ≡ true = ap not (sym told) ∙ ap not w.if-not-is_inside.true in
           rw (w.demands-is, w.count-is) (FiltersInPlace-more_set c.loop-index.invariant (omega arith) left c.index-demands-index.is)
       | else-not-is_inside w ↦
-          let placed : not (lies (seen (listed c.args.times.now) d)) ≡ false = ap not (sym told) ∙ ap not w.if-not-is_inside.false in
-          rw (w.demands-is, w.count-is) (FiltersInPlace-more_no c.loop-index.invariant (omega arith) placed c.index-demands-index.is)
+          let removed : not (lies (seen (listed c.args.times.now) d)) ≡ false = ap not (sym told) ∙ ap not w.if-not-is_inside.false in
+          rw (w.demands-is, w.count-is) (FiltersInPlace-more_no c.loop-index.invariant (omega arith) removed c.index-demands-index.is)
     ]

@@ -37,13 +37,13 @@ returns-then-tick-self c =
     let t = taken q c.requires.hull c.loop-next.ticks.fits c.loop-next.invariant said.taken.leaves same in
     let late : c.args.self.now.start ≤ c.unwrap-next.result.tick = omega (arith, c.from.ensures) in
     let with_unit = λ (u : ℕ). place_at c.args.self.now.from u (state_of c.args.plan.now) in
-    let placed = c.allocate.ensures ∙ ap with_unit c.from-tick.ensures in
+    let allocated = c.allocate.ensures ∙ ap with_unit c.from-tick.ensures in
     let added = refill_added _ said.left (slots_of c.replace_least.new.self) c.replace_least.result _ said.refilled same in
     record {
-      placed = placed ∙ ap with_unit (is_spot t late);
+      allocated = allocated ∙ ap with_unit (is_spot t late);
       hull = record {
         start = c.hull_start-self.ensures;
-        queued = subst (λ lo. IsQueued (state_of c.allocate.new.self).settings lo c.args.self.now.to (elements_of (slots_of c.replace_least.new.self))) (sym c.hull_start-self.ensures) (queued_risen t late placed added);
+        queued = subst (λ lo. IsQueued (state_of c.allocate.new.self).settings lo c.args.self.now.to (elements_of (slots_of c.replace_least.new.self))) (sym c.hull_start-self.ensures) (queued_risen t late allocated added);
       };
       window = (refl, refl);
     }
@@ -56,10 +56,10 @@ returns-else-tick-self c =
     let t = taken q c.requires.hull c.loop-next.ticks.fits c.loop-next.invariant said.taken.leaves same in
     let late : c.args.self.now.start ≤ c.unwrap-next.result.tick = omega (arith, c.from.ensures) in
     let with_unit = λ (u : ℕ). place_at c.args.self.now.from u (state_of c.args.plan.now) in
-    let placed = c.allocate.ensures ∙ ap with_unit c.from-tick.ensures in
+    let allocated = c.allocate.ensures ∙ ap with_unit c.from-tick.ensures in
     let added = refill_added _ said.left (slots_of c.replace_least.new.self) c.replace_least.result _ said.refilled same in
     record {
-      placed = placed ∙ ap with_unit (is_spot t late);
-      hull = record { start = start_stays t late placed added (omega (arith, c.from-tick.ensures)); queued = queued_after t late placed added };
+      allocated = allocated ∙ ap with_unit (is_spot t late);
+      hull = record { start = start_stays t late allocated added (omega (arith, c.from-tick.ensures)); queued = queued_after t late allocated added };
       window = (refl, refl);
     }

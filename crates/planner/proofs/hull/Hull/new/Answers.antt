@@ -5,7 +5,7 @@ use Rattle.schedule.specs.Certificate.{listed}
 use Rattle.planner.proofs.Slots.{put_added}
 use Rattle.planner.proofs.Queueing.{queued_more, queued_permuted}
 use Rattle.planner.specs.Queued.{IsQueued}
-use Rattle.planner.proofs.LowEnds.{low_end_begun}
+use Rattle.schedule.proofs.Deadlines.{low_end_begun}
 use Rattle.planner.proofs.hull.Hull.new.Goals as goal
 
 pub loop-tick-preserved : goal.loop-tick-preserved
