@@ -50,16 +50,24 @@ fn encode(entry: &Record) -> Result<[u8; RECORD_LEN], WriteFault>
     Ok(job.to_record(kind.into(), label))
 }
 
-/// Writes the record into the first 24 places of the list, and leaves the rest of it.
+/// Writes the record into the first 24 bytes of the list, and leaves the rest of it.
 ///
-/// Refuses an offer whose arrival, deadline or label does not fit, in this order, and then a list of fewer than 24
-/// places; a refused call changes nothing. The bytes read back as the record, but for the last spaces of its label:
+/// They read back as the record, but for the last spaces of its label.
 ///
 /// ```text
-/// let mut bytes = [0; 24];
+/// let mut bytes = [0; RECORD_LEN];
 /// write(&Record::Strike { ticket: 7 }, &mut bytes)?;
 /// Reader::new(&bytes).read()   // Ok(Some(Record::Strike { ticket: 7 }))
 /// ```
+///
+/// # Refusals
+///
+/// Checked in this order; a refused call leaves the list as it was.
+///
+/// - `WriteFault::Field(WrittenField::Arrival)`: when the arrival of an offer is after `LAST_TICK`
+/// - `WriteFault::Field(WrittenField::Deadline)`: when its deadline is
+/// - `WriteFault::Field(WrittenField::Label)`: when its label is not six bytes from 20 to 7E, hexadecimal
+/// - `WriteFault::Short`: when the list has fewer than 24 bytes
 pub fn write(entry: &Record, out: &mut [u8]) -> Result<(), WriteFault>
     ensures said { result ≡ write_answer (content_of entry.now) out.old }
     ensures written { out.new ≡ list_after (content_of entry.now) out.old }
