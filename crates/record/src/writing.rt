@@ -1,7 +1,7 @@
 // The writer: one record into the caller's list.
 ghost use Rattle.std.specs.Prelude.{◌≡◌, true, take, is_ok, OnOk};
 ghost use Rattle.layout.specs.RoundTrip.{IsSizedContent, trimmed_content, ReadsAs};
-ghost use Rattle.layout.specs.Writing.{encoding_of, encode_answer, write_check, offer_check, write_answer, list_after};
+ghost use Rattle.layout.specs.Writing.{bare_job, encoding_of, encode_answer, write_check, offer_check, write_answer, list_after};
 ghost use Rattle.record.specs.Content.{content_of};
 
 use super::content::{Offer, Record};
@@ -27,6 +27,16 @@ fn check_offer(offer: &Offer) -> Result<(), WriteFault>
     Ok(())
 }
 
+// A strike has the ticket in place of a job, and a tick zeros alone.
+fn bare_job(ticket: u16) -> Job
+    ensures { result ≡ bare_job ticket }
+{
+    Job {
+        ticket,
+        ..Job::default()
+    }
+}
+
 // The bytes of the record, where its fields fit them.
 fn encode(entry: &Record) -> Result<[u8; RECORD_LEN], WriteFault>
     ensures said { result ≡ encode_answer (write_check (content_of entry.now)) (encoding_of (content_of entry.now)) }
@@ -37,15 +47,8 @@ fn encode(entry: &Record) -> Result<[u8; RECORD_LEN], WriteFault>
             check_offer(&offer)?;
             (Kind::Offer, offer.job, offer.label.first_chunk().unwrap())
         }
-        Record::Strike { ticket } => (
-            Kind::Strike,
-            Job {
-                ticket,
-                ..Job::default()
-            },
-            &BLANK_LABEL,
-        ),
-        Record::Tick => (Kind::Tick, Job::default(), &BLANK_LABEL),
+        Record::Strike { ticket } => (Kind::Strike, bare_job(ticket), &BLANK_LABEL),
+        Record::Tick => (Kind::Tick, bare_job(0), &BLANK_LABEL),
     };
     Ok(job.to_record(kind.into(), label))
 }
