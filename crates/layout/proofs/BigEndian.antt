@@ -8,7 +8,7 @@ use Rattle.std.proofs.lemmas.List.{take_more, length-take-le}
 use Rattle.std.proofs.lemmas.List.Elements.{All-from_get_or, All-take, recursion_from_All}
 use Rattle.layout.specs.BigEndian.{number, bytes}
 
--- a list of known length, place by place
+-- a list of known length, byte by byte
 pub spelt_out : (n : ℕ) (bs : List ℕ) → length bs ≡ n → bs ≡ map (λ k. get_or bs k 0) (range_with_len 0 n)
 spelt_out n bs e = fill_by_all (λ k. get_or bs k 0) bs n 0 e (λ k h. refl)
 

@@ -19,7 +19,7 @@ use Rattle.layout.proofs.BigEndian.{spelt_out, bytes-number, number_fits}
 use Rattle.layout.proofs.Labels.{label_is, label_parts, same_from_trimmed}
 use Rattle.layout.proofs.WrittenReads.{offer_parts}
 
--- where no place is forbidden, each is allowed
+-- where no byte is forbidden, each is allowed
 none_forbidden : (k : Kind) (i : ℕ) (bs : List ℕ) → first_forbidden k i bs ≡ None → (j m : ℕ) → m ≡ i + j → j < length bs → is_allowed k m (get_or bs j 0) ≡ true
 none_forbidden k i [] e j m q h = absurd (omega arith)
 none_forbidden k i (b ∷ bs) e zero m q h = grind (arith, nat_tests)
@@ -110,22 +110,22 @@ module _ (b : List ℕ) (long : length b ≡ 24) (small : (i : ℕ) → get_or b
       let ticket = no_field Tick b long small e f 2 2 (omega arith) (omega arith) (omega arith) in
       (λ i. record_bytes (kind_byte Tick) (bare_job (ticket i)) blank_label) ∙ record_bytes-bare_job Tick b long small e f (omega arith) (λ v h. eqb-true v 0x20 h)
 
-  label_whole : get_or b 0 0 ≡ kind_byte Offer → first_forbidden Offer 1 (drop 1 b) ≡ None → is_label (label_in b) ≡ true
-  label_whole e f =
+  is_label-whole : get_or b 0 0 ≡ kind_byte Offer → first_forbidden Offer 1 (drop 1 b) ≡ None → is_label (label_in b) ≡ true
+  is_label-whole e f =
       let l = length_label Offer b long small e f in
       let at = λ (i : ℕ) (h : i < 6). get_or-take 6 (drop 18 b) i 0 h ∙ get_or-drop 18 b i 0 in
       let each = λ (i : ℕ) (h : i < length (label_in b)). ap is_printable (at i (omega (arith, l))) ∙ label_at Offer b long small e f (18 + i) (omega arith) (omega (arith, l)) in
       label_is (label_in b) true l (list_all-from_AllPass is_printable (label_in b) (All-from_get_or (λ v. is_printable v ≡ true) (label_in b) 0 each))
 
-  writable_whole : (k : Kind) → get_or b 0 0 ≡ kind_byte k → first_forbidden k 1 (drop 1 b) ≡ None → IsWritable (whole k b)
-  writable_whole Offer e f =
+  IsWritable-whole : (k : Kind) → get_or b 0 0 ≡ kind_byte k → first_forbidden k 1 (drop 1 b) ≡ None → IsWritable (whole k b)
+  IsWritable-whole Offer e f =
       let fits = part_fits Offer b long small e f in
-      let label = label_whole e f in
+      let label = is_label-whole e f in
       let arrival = fits 4 6 (omega arith) in
       let deadline = fits 10 6 (omega arith) in
       (record { ticket = fits 2 2 (omega arith); work = fits 16 2 (omega arith) }, grind (arith, nat_tests))
-  writable_whole Strike e f = (part_fits Strike b long small e f 2 2 (omega arith), refl)
-  writable_whole Tick e f = (tt, refl)
+  IsWritable-whole Strike e f = (part_fits Strike b long small e f 2 2 (omega arith), refl)
+  IsWritable-whole Tick e f = (tt, refl)
 
 -- contents that the writer takes and that read back the same are the same
 same_content : (x y : Content) → IsWritable x → IsWritable y → trimmed_content x ≡ trimmed_content y → x ≡ y
@@ -152,7 +152,7 @@ kind_byte_lem v Tick e = grind (arith, nat_tests)
 pub only_form : (k : Kind) (b : List ℕ) → length b ≡ 24 → ((i : ℕ) → get_or b i 0 < 256) → Some k ≡ kind_of (get_or b 0 0) → None ≡ first_forbidden k 1 (drop 1 b) → (c : Content) → c ≡ content_in k b → IsOnlyForm (Ok (Some c)) b
 only_form k b long small e f c is =
     let kind = kind_byte_lem (get_or b 0 0) k (sym e) in
-    let ready = writable_whole b long small k kind (sym f) in
+    let ready = IsWritable-whole b long small k kind (sym f) in
     let reads = trimmed_content-whole k b ∙ sym is in (
       (whole k b, (ready, reads)),
       λ x w h. ap encoding_of (same_content x (whole k b) w ready (h ∙ sym reads)) ∙ encoding_of-whole b long small k kind (sym f),

@@ -47,20 +47,20 @@ written_reads x h before after =
     let here : take 24 (drop p s) ≡ e = ap (take 24) (drop_at before (e ++ after) p refl) ∙ take_at e after 24 n in
     read_whole s p (omega (arith, length-append before (e ++ after), length-append e after)) ∙ ap some_content (ap (parse_answer p) here ∙ parse_answer-encoding_of p x h)
 
-encoded_by_lem : (r : Result (Unit {0}) WriteFault) (b bs : List ℕ) → Ok bs ≡ encode_answer r b → (r ≡ Ok tt) × (bs ≡ b)
-encoded_by_lem (Ok u) b bs e = (refl, cc)
-encoded_by_lem (Err f) b bs e = cc
+encode_answer-ok : (r : Result (Unit {0}) WriteFault) (b bs : List ℕ) → Ok bs ≡ encode_answer r b → (r ≡ Ok tt) × (bs ≡ b)
+encode_answer-ok (Ok u) b bs e = (refl, cc)
+encode_answer-ok (Err f) b bs e = cc
 
 -- a record whose bytes bs were made, written where there is room
 module _ (x : Content) (s bs : List ℕ) (made : Ok bs ≡ encode_answer (write_check x) (encoding_of x)) (room : 24 ≤ length s) where
   pub write_accepts : Ok tt ≡ write_answer x s
-  write_accepts = let e = encoded_by_lem (write_check x) (encoding_of x) bs made in grind (arith, nat_tests)
+  write_accepts = let e = encode_answer-ok (write_check x) (encoding_of x) bs made in grind (arith, nat_tests)
 
   pub write_fills : (ys : List ℕ) → ys ≡ bs → ys ++ drop 24 s ≡ list_after x s
-  write_fills ys e = ap (λ b. b ++ drop 24 s) (e ∙ (encoded_by_lem (write_check x) (encoding_of x) bs made).1) ∙ ap (λ r. list_after_write r (encoding_of x) s) write_accepts
+  write_fills ys e = ap (λ b. b ++ drop 24 s) (e ∙ (encode_answer-ok (write_check x) (encoding_of x) bs made).1) ∙ ap (λ r. list_after_write r (encoding_of x) s) write_accepts
 
   pub write_reads : (ys : List ℕ) → ys ≡ bs → IsSizedContent x → ReadsAs (take 24 (ys ++ drop 24 s)) (trimmed_content x)
   write_reads ys e sized =
-      let q = encoded_by_lem (write_check x) (encoding_of x) bs made in
+      let q = encode_answer-ok (write_check x) (encoding_of x) bs made in
       let whole : take 24 (ys ++ drop 24 s) ≡ encoding_of x = ap (λ b. take 24 (b ++ drop 24 s)) (e ∙ q.1) ∙ take_at (encoding_of x) (drop 24 s) 24 (length-encoding_of x q.0) in
       subst (λ b. ReadsAs b (trimmed_content x)) (sym whole) (written_reads x (sized, q.0))

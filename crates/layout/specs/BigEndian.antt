@@ -11,6 +11,6 @@ abbrev pub bytes : ℕ → ℕ → List ℕ
 bytes zero n = []
 bytes (suc k) n = bytes k (n / 256) ++ (n % 256 ∷ [])
 
--- the n bytes from a place on
+-- n bytes, from the one with this index on
 abbrev pub part : ℕ → ℕ → List ℕ → List ℕ
 part from n bs = take n (drop from bs)

@@ -24,9 +24,9 @@ fn read_number(bytes: &[u8]) -> u64
 /// Its window is every tick t with arrival <= t < deadline.
 #[derive(Clone, Copy, PartialEq, Eq, Debug, Default)]
 pub struct Job {
-    /// Tells it from the other jobs: 1 to 65,535.
+    /// Its number, 1 to 65,535.
     pub ticket: u16,
-    /// The first tick of its window.
+    /// The tick at which its window begins.
     pub arrival: u64,
     /// The tick right after its window.
     pub deadline: u64,
@@ -36,6 +36,10 @@ pub struct Job {
 
 impl Job {
     /// The job in the 24 bytes of a record, whatever its other bytes are.
+    ///
+    /// ```text
+    /// Job::of_record(&job.to_record(0x4a, &[0; LABEL_LEN]))   // job, where its ticks are at most LAST_TICK
+    /// ```
     pub fn of_record(bytes: &[u8; RECORD_LEN]) -> Job
         ensures { result ≡ job_in bytes.now }
     {
@@ -50,6 +54,12 @@ impl Job {
     /// The 24 bytes of a record with the job: the first byte, a zero, the four numbers, and the last six bytes.
     ///
     /// Of arrival and deadline the low six bytes.
+    ///
+    /// ```text
+    /// let job = Job { ticket: 7, arrival: 1, deadline: 258, work: 3 };
+    /// // [0x4a, 0, 0, 7, 0, 0, 0, 0, 0, 1, 0, 0, 0, 0, 1, 2, 0, 3, 0, 0, 0, 0, 0, 0]
+    /// job.to_record(0x4a, &[0; LABEL_LEN])
+    /// ```
     pub fn to_record(self, first: u8, last: &[u8; LABEL_LEN]) -> [u8; RECORD_LEN]
         ensures bytes { result ≡ record_bytes first self last.now }
         ensures sized { IsSized self }
@@ -65,6 +75,12 @@ impl Job {
     }
 
     /// Does what is left of its work, or the units if they are less, and answers how many units that took.
+    ///
+    /// ```text
+    /// let mut job = Job { ticket: 7, arrival: 0, deadline: 2, work: 3 };
+    /// job.serve(2)   // 2, and job.work is 1
+    /// job.serve(2)   // 1, and job.work is 0
+    /// ```
     pub fn serve(&mut self, units: u16) -> u16
         ensures units { result ≡ min self.old.work units }
         ensures after { self.new ≡ job_after self.old result }

@@ -3,19 +3,19 @@ ghost use Rattle.std.specs.Prelude.{◌≡◌, drop};
 ghost use Rattle.std.specs.Option.{ok_or};
 ghost use Rattle.layout.specs.Layout.{kind_byte, kind_of, numbers_end, is_printable, is_allowed, first_forbidden};
 
-/// Where the ticket begins. A field ends where the next one begins.
-pub const TICKET: usize = 2;
+// Where the ticket begins. A field ends where the next one begins.
+pub(super) const TICKET: usize = 2;
 
-/// Where the arrival begins.
-pub const ARRIVAL: usize = 4;
+// Where the arrival begins.
+pub(super) const ARRIVAL: usize = 4;
 
-/// Where the deadline begins.
-pub const DEADLINE: usize = 10;
+// Where the deadline begins.
+pub(super) const DEADLINE: usize = 10;
 
-/// Where the work begins.
-pub const WORK: usize = 16;
+// Where the work begins.
+pub(super) const WORK: usize = 16;
 
-/// Where the label begins, which ends with the record.
+/// The index of the first byte of the label, 18. The label ends with the record.
 pub const LABEL: usize = 18;
 
 /// The bytes of a label: 6.
@@ -25,10 +25,19 @@ pub const LABEL_LEN: usize = 6;
 pub const RECORD_LEN: usize = LABEL + LABEL_LEN;
 
 /// What a record is, with the byte 0 that says so.
+///
+/// ```text
+/// Kind::try_from(0x53)     // Ok(Kind::Strike)
+/// Kind::try_from(0x58)     // Err(UnknownKind(0x58))
+/// u8::from(Kind::Strike)   // 0x53
+/// ```
 #[derive(Clone, Copy, PartialEq, Eq, Debug)]
 pub enum Kind {
+    /// A job is offered.
     Offer = 0x4f,
+    /// An open job is to be closed.
     Strike = 0x53,
+    /// A tick is over.
     Tick = 0x54,
 }
 
@@ -49,6 +58,11 @@ impl TryFrom<u8> for Kind {
 
     ghost try_from_gives = { λ byte outcome. outcome ≡ ok_or (kind_of byte) (record { 0 = byte }) };
 
+    /// The kind with this byte 0.
+    ///
+    /// # Refusals
+    ///
+    /// - `UnknownKind`: when no kind has it
     fn try_from(byte: u8) -> Result<Kind, UnknownKind> {
         match byte {
             0x4f => Ok(Kind::Offer),
@@ -60,6 +74,11 @@ impl TryFrom<u8> for Kind {
 }
 
 /// Whether a label may hold the byte: 20 to 7E, hexadecimal.
+///
+/// ```text
+/// is_printable(b'~')   // true
+/// is_printable(0x7f)   // false
+/// ```
 pub fn is_printable(byte: u8) -> bool
     ensures { result ≡ is_printable byte }
 {
@@ -78,12 +97,12 @@ impl Kind {
         }
     }
 
-    // Whether the layout allows the byte at a place after byte 0.
-    fn allows(self, at: usize, byte: u8) -> bool
-        ensures { result ≡ is_allowed self at byte }
+    // Whether the layout allows the byte with the index, after byte 0.
+    fn allows(self, index: usize, byte: u8) -> bool
+        ensures { result ≡ is_allowed self index byte }
     {
-        if at < LABEL {
-            (TICKET..self.numbers_end()).contains(&at) || byte == 0
+        if index < LABEL {
+            (TICKET..self.numbers_end()).contains(&index) || byte == 0
         } else {
             match self {
                 Kind::Offer => is_printable(byte),
@@ -92,7 +111,12 @@ impl Kind {
         }
     }
 
-    /// The first place after byte 0 that holds a byte which the layout of the kind forbids.
+    /// The index of the first byte after byte 0 that the layout of the kind forbids.
+    ///
+    /// ```text
+    /// Kind::Tick.first_forbidden(b"T\0\0\0\0\0\0\0\0\0\0\0\0\0\0\0\0\0      ")   // None
+    /// Kind::Tick.first_forbidden(b"T\0\0\x07\0\0\0\0\0\0\0\0\0\0\0\0\0\0fader ")   // Some(3)
+    /// ```
     pub fn first_forbidden(self, bytes: &[u8]) -> Option<usize>
         ensures { result ≡ first_forbidden self 1 (drop 1 bytes.now) }
     {
@@ -100,7 +124,7 @@ impl Kind {
             .iter()
             .enumerate()
             .skip(1)
-            .find(|(at, byte)| !self.allows(*at, **byte))
-            .map(|(at, _)| at)
+            .find(|(index, byte)| !self.allows(*index, **byte))
+            .map(|(index, _)| index)
     }
 }

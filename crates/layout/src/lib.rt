@@ -1,4 +1,5 @@
-//! What a 24-byte record of a console's file says, and how its bytes are laid out.
+//! A job, and the 24-byte records of a console's file: their kinds, how their bytes are laid out, and why one is
+//! refused.
 //!
 //! Numbers have the high byte first.
 //!
@@ -12,11 +13,11 @@
 //! | 16 to 17 | work |
 //! | 18 to 23 | label, bytes 20 to 7E |
 //!
-//! A strike has no number but its ticket and a tick has none: zeros stand in their places, and spaces in
-//! the place of the label.
+//! A strike has no number but its ticket and a tick has none: the bytes of the others are zero, and those of the
+//! label are spaces.
 //!
 //! The definitions of reading and writing stand here too, in specs/, with the laws that tie them, in proofs/;
-//! the crate `record` has the reader and the writer.
+//! the crate `record` has the reader and the writer, and hands on what belongs to them.
 #![tactic(auto)]
 
 mod fault;

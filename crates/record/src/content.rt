@@ -6,14 +6,12 @@ ghost use Rattle.record.specs.Content.{content_of};
 use layout::Job;
 
 /// An offered job with its label.
-///
-/// The label of an offer that was read is a part of the input, without its last spaces. The label of an offer to
-/// write has all its six bytes.
 #[derive(Clone, Copy, PartialEq, Debug)]
 pub struct Offer<'a> {
     /// The job.
     pub job: Job,
-    /// The bytes of the label, each from 20 to 7E, hexadecimal.
+    /// Its label, of bytes from 20 to 7E, hexadecimal. Of an offer that was read it is a part of the input, without
+    /// the last spaces; of an offer to write it has all its six bytes.
     pub label: &'a [u8],
 }
 
@@ -24,12 +22,17 @@ pub enum Record<'a> {
     Offer(Offer<'a>),
     /// The open job with this ticket is to be closed.
     Strike { ticket: u16 },
-    /// The tick is over, and its work is to be done.
+    /// A tick is over.
     Tick,
 }
 
 impl<'a> Record<'a> {
-    /// Its label: of an offer its own; a strike and a tick have a blank one, with no bytes.
+    /// The label of the record: of an offer its own; a strike and a tick have a blank one, of no bytes.
+    ///
+    /// ```text
+    /// Record::Offer(Offer { job, label: b"fader" }).label()   // fader
+    /// Record::Tick.label()                                    // no bytes
+    /// ```
     pub fn label(&self) -> &'a [u8]
         ensures { result.now ≡ label_of (content_of self.now) }
     {

@@ -21,7 +21,12 @@ pub(super) fn is_label(label: &[u8]) -> bool
 
 /// What a label that was read shows: itself, or the caller's default text where it is blank.
 ///
-/// Neither is copied. `shown(b"fader", b"house")` is the bytes `fader`, and `shown(b"", b"house")` is `house`.
+/// Neither is copied.
+///
+/// ```text
+/// shown(b"fader", b"house")   // fader
+/// shown(b"", b"house")        // house
+/// ```
 pub fn shown<'a>(label: &'a [u8], default: &'a [u8]) -> &'a [u8]
     ensures { result.now ≡ shown_label label.now default.now }
 {

@@ -42,11 +42,14 @@ fn parse(bytes: &[u8; RECORD_LEN], offset: usize) -> Result<Record<'_>, ReadFaul
 
 /// Reads the records of an input one after another.
 ///
-/// An offer's label is a part of the input, so the records may outlive the reader:
+/// An offer's label is a part of the input, so the records may outlive the reader.
 ///
 /// ```text
-/// let mut reader = Reader::new(input);
-/// while let Some(record) = reader.read()? { .. }
+/// // The 24 bytes of a strike of ticket 7, and three bytes more.
+/// let mut reader = Reader::new(b"S\0\0\x07\0\0\0\0\0\0\0\0\0\0\0\0\0\0      T\0\0");
+/// reader.read()     // Ok(Some(Record::Strike { ticket: 7 }))
+/// reader.offset()   // 24
+/// reader.read()     // Err(ReadFault::Cut { offset: 24 })
 /// ```
 #[derive(Drop)]
 pub struct Reader<'a> {
@@ -66,14 +69,14 @@ impl<'a> Model for Reader<'a> {
 }
 
 impl<'a> Reader<'a> {
-    /// A reader at the start of the input.
+    /// A reader at the start of the input, which may be empty.
     pub fn new(input: &'a [u8]) -> Reader<'a>
         ensures { result ≡ record { input = input.now; offset = 0 } }
     {
         Reader { input, offset: 0 }
     }
 
-    /// The offset of the next record, in bytes from the start of the input.
+    /// The offset of the next record: how many bytes of the input stand before it.
     pub fn offset(&self) -> usize
         ensures offset { result ≡ self.now.offset }
         ensures within { result ≤ length self.now.input }
@@ -83,8 +86,14 @@ impl<'a> Reader<'a> {
 
     /// The next record, or `None` at the end of the input.
     ///
-    /// Refuses a record that is cut, of an unknown kind or with a byte that its layout forbids, with the values that
-    /// [`ReadFault`] names. After the last two it goes on with the next record.
+    /// A record that is refused whole is passed over, and the next call goes on after it. At the end of the input, and
+    /// at a cut record, the reader stays where it is.
+    ///
+    /// # Refusals
+    ///
+    /// - `ReadFault::Cut`: when 1 to 23 bytes remain
+    /// - `ReadFault::UnknownKind`: when byte 0 of the record is no kind
+    /// - `ReadFault::Forbidden`: when a later byte is one that the layout of the kind forbids
     pub fn read(&mut self) -> Result<Option<Record<'a>>, ReadFault>
         ensures said { read_answer_of result ≡ read_answer self.old.input self.old.offset }
         ensures only { IsOnlyForm (read_answer_of result) (part self.old.offset 24 self.old.input) }

@@ -1,7 +1,7 @@
 // The writer: one record into the caller's list.
 ghost use Rattle.std.specs.Prelude.{◌≡◌, true, take, is_ok, OnOk};
 ghost use Rattle.layout.specs.RoundTrip.{IsSizedContent, trimmed_content, ReadsAs};
-ghost use Rattle.layout.specs.Writing.{encoding_of, encode_answer, write_check, offer_check, write_answer, list_after};
+ghost use Rattle.layout.specs.Writing.{bare_job, encoding_of, encode_answer, write_check, offer_check, write_answer, list_after};
 ghost use Rattle.record.specs.Content.{content_of};
 
 use super::content::{Offer, Record};
@@ -27,6 +27,16 @@ fn check_offer(offer: &Offer) -> Result<(), WriteFault>
     Ok(())
 }
 
+// A strike has the ticket in place of a job, and a tick zeros alone.
+fn bare_job(ticket: u16) -> Job
+    ensures { result ≡ bare_job ticket }
+{
+    Job {
+        ticket,
+        ..Job::default()
+    }
+}
+
 // The bytes of the record, where its fields fit them.
 fn encode(entry: &Record) -> Result<[u8; RECORD_LEN], WriteFault>
     ensures said { result ≡ encode_answer (write_check (content_of entry.now)) (encoding_of (content_of entry.now)) }
@@ -37,29 +47,30 @@ fn encode(entry: &Record) -> Result<[u8; RECORD_LEN], WriteFault>
             check_offer(&offer)?;
             (Kind::Offer, offer.job, offer.label.first_chunk().unwrap())
         }
-        Record::Strike { ticket } => (
-            Kind::Strike,
-            Job {
-                ticket,
-                ..Job::default()
-            },
-            &BLANK_LABEL,
-        ),
-        Record::Tick => (Kind::Tick, Job::default(), &BLANK_LABEL),
+        Record::Strike { ticket } => (Kind::Strike, bare_job(ticket), &BLANK_LABEL),
+        Record::Tick => (Kind::Tick, bare_job(0), &BLANK_LABEL),
     };
     Ok(job.to_record(kind.into(), label))
 }
 
-/// Writes the record into the first 24 places of the list, and leaves the rest of it.
+/// Writes the record into the first 24 bytes of the list, and leaves the rest of it.
 ///
-/// Refuses an offer whose arrival, deadline or label does not fit, in this order, and then a list of fewer than 24
-/// places; a refused call changes nothing. The bytes read back as the record, but for the last spaces of its label:
+/// They read back as the record, but for the last spaces of its label.
 ///
 /// ```text
-/// let mut bytes = [0; 24];
+/// let mut bytes = [0; RECORD_LEN];
 /// write(&Record::Strike { ticket: 7 }, &mut bytes)?;
 /// Reader::new(&bytes).read()   // Ok(Some(Record::Strike { ticket: 7 }))
 /// ```
+///
+/// # Refusals
+///
+/// Checked in this order; a refused call leaves the list as it was.
+///
+/// - `WriteFault::Field(WrittenField::Arrival)`: when the arrival of an offer is after `LAST_TICK`
+/// - `WriteFault::Field(WrittenField::Deadline)`: when its deadline is
+/// - `WriteFault::Field(WrittenField::Label)`: when its label is not six bytes from 20 to 7E, hexadecimal
+/// - `WriteFault::Short`: when the list has fewer than 24 bytes
 pub fn write(entry: &Record, out: &mut [u8]) -> Result<(), WriteFault>
     ensures said { result ≡ write_answer (content_of entry.now) out.old }
     ensures written { out.new ≡ list_after (content_of entry.now) out.old }

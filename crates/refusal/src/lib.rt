@@ -10,31 +10,50 @@ use std::fmt;
 /// The layers of the governor, lowest first: a refusal names the one that refused.
 #[derive(Clone, Copy, PartialEq, Eq, Debug)]
 pub enum Layer {
+    /// The queue of the jobs that are ready to be served.
     Queue,
+    /// What each setting draws.
     Power,
+    /// The reader and the writer of records.
     Record,
+    /// The open jobs.
     Book,
+    /// The bench, which works the records of a file.
     Bench,
 }
 
-/// The values that a refusal returns after its number: one, or three for an overloaded interval.
+/// The values that a refusal returns after its number.
 #[derive(Clone, Copy, PartialEq, Eq, Debug)]
 pub enum Values {
+    /// One value, as a ticket or an offset.
     One(u64),
+    /// Of an overloaded interval: its first tick, the tick right after it, and the work inside it in units.
     Three(u64, u64, u64),
 }
 
-/// A refusal as the caller is told of it. `{}` writes its number and its values, as `8 1 2 6`.
+/// A refusal as the caller is told of it. `{}` writes its number and its values:
+///
+/// ```text
+/// let refusal = Refusal { layer: Layer::Book, number: 8, values: Values::Three(1, 2, 6) };
+/// format!("{refusal}")   // 8 1 2 6
+/// ```
 #[derive(Clone, Copy, PartialEq, Eq, Debug)]
 pub struct Refusal {
+    /// The layer that refused.
     pub layer: Layer,
-    // A number and no enum: the firmware in C reads it.
+    /// Why it refused, 1 to 13 as docs/REFUSALS.md lists them. A number and no enum: the firmware in C reads it.
     pub number: u8,
+    /// What the refusal names.
     pub values: Values,
 }
 
 impl Refusal {
     /// The refusal of a layer with its number and one value.
+    ///
+    /// ```text
+    /// let refusal = Refusal::with_value(Layer::Record, 1, 48);
+    /// format!("{refusal}")   // 1 48
+    /// ```
     pub fn with_value(layer: Layer, number: u8, value: u64) -> Refusal
         ensures { result ≡ refusal_with layer number value }
     {
