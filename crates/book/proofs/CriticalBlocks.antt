@@ -44,7 +44,7 @@ blocks_are b ds items open_at of_jobs of_demands =
 pub blocked_open : (b : View) (ds : List Demand) → All (IsOpenAt b.now) b.jobs → ds ≡ demands b.now b.jobs → Blocked horizon (open_demands ds) → Blocked horizon (demands b.now b.jobs)
 blocked_open b ds open_at of_jobs = subst (Blocked horizon) (ap open_demands of_jobs ∙ open-demands b.now b.jobs open_at)
 
--- they are written into the first places of a list, one after the other
+-- they are written into the first elements of a list, one after the other
 module _ (now : ℕ) (items : List RelativeBlock) (list : List CriticalBlock) (room : length items ≤ length list) where
   pub block_written : (i : ℕ) (d : RelativeBlock) → i < length items → set (paste list 0 (map (block_in_time now) items) i) i (block_in_time now (get_or items i d)) ≡ paste list 0 (map (block_in_time now) items) (i + 1)
   block_written i d lt =

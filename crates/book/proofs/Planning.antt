@@ -43,7 +43,7 @@ plannable-demands now js few order open_at = record {
   sorted = sorted-demands now js order;
 }
 
--- the settings in force, written into the first places of a list
+-- the settings in force, written into the first elements of a list
 pub written : (b : View) (xs list : List ℕ) → length xs ≡ 256 → Same horizon (listed xs) (settings_of b) → xs ++ drop 256 list ≡ list_with_settings b list
 written b xs list long same =
     let ticks : horizon ≡ 256 = theory.ticks in

@@ -24,7 +24,7 @@ blocks_of b = map (λ c. block_in_time b.now (block_of c)) (blocks horizon (dema
 abbrev pub blocks_fault : List CriticalBlock → Option BookFault
 blocks_fault list = if nat_lt (length list) 64 then Some (Short 64) else None
 
--- blocks writes the critical blocks into the first places of the list, and answers how many there are
+-- blocks writes the critical blocks into the first elements of the list, and answers how many there are
 abbrev pub blocks_outcome : View → List CriticalBlock → Outcome ℕ BookFault (List CriticalBlock)
 blocks_outcome b list =
     let found = blocks_of b in

@@ -40,7 +40,7 @@ image b = flat_map (λ r. r) (image_records b)
 abbrev pub length_fault : List ℕ → Option BookFault
 length_fault list = if nat_lt (length list) 1560 then Some (Short 1560) else None
 
--- save writes the image into the first places of the list
+-- save writes the image into the first elements of the list
 abbrev pub save_outcome : View → List ℕ → Outcome (Unit {0}) BookFault (List ℕ)
 save_outcome b list = outcome (length_fault list) b list (accepted tt b (image b ++ drop 1560 list))
 

@@ -11,7 +11,7 @@ use Rattle.book.specs.Demands.{demands}
 use Rattle.book.specs.Book.{View, IsWellFormed, IsLawful}
 use Rattle.book.specs.Images.{image, load_outcome}
 
--- the job at the place, if there is one, has these sizes
+-- the job at the index, if there is one, has these sizes
 abbrev pub IsSizedAt : ℕ → List Job → Type 0
 IsSizedAt index jobs = (d : Job) → index < length jobs → IsSized (slice_index_or jobs index d)
 

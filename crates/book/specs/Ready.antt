@@ -3,11 +3,11 @@ use Rattle.std.specs.Prelude.{ℕ, ◌+◌, ◌++◌, if◌then◌else◌, List,
 use Rattle.queue.specs.declared.ready.ReadyJob.{ReadyJob}
 use Rattle.layout.specs.declared.job.Job.{Job}
 
--- the job at a place, as the queue holds it
+-- the job at an index, as the queue holds it
 abbrev pub ready_job : ℕ → Job → ReadyJob
 ready_job index j = record { deadline = j.deadline; ticket = j.ticket; index = index }
 
--- the jobs whose windows have begun, the first of the jobs at the place
+-- the jobs whose windows have begun, the first of the jobs at the index
 abbrev pub ready_jobs : ℕ → ℕ → List Job → List ReadyJob
 ready_jobs now index [] = []
 ready_jobs now index (j ∷ js) =

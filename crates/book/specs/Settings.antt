@@ -16,10 +16,10 @@ settings_fault list = if nat_lt (length list) 256 then Some (Short 256) else Non
 abbrev pub settings_of : View → ℕ → ℕ
 settings_of b = settings_in_force (demands b.now b.jobs)
 
--- the list with the settings in force in its first places
+-- the list with the settings in force in its first elements
 abbrev pub list_with_settings : View → List ℕ → List ℕ
 list_with_settings b list = map (settings_of b) (range_with_len 0 horizon) ++ drop horizon list
 
--- settings writes the settings in force into the first places of the list
+-- settings writes the settings in force into the first elements of the list
 abbrev pub settings_outcome : View → List ℕ → Outcome (Unit {0}) BookFault (List ℕ)
 settings_outcome b list = outcome (settings_fault list) b list (accepted tt b (list_with_settings b list))

@@ -48,7 +48,7 @@ tick_fault b list =
     if nat_lt (length list) 64 then Some (Short 64) else
     if b.now == last_tick then Some (LastTick b.now) else None
 
--- a tick serves the open jobs: it answers its setting and the count of entries, which stand in the first places of
+-- a tick serves the open jobs: it answers its setting and the count of entries, which stand in the first elements of
 -- the list
 abbrev pub tick_outcome : View → List Entry → Outcome Served BookFault (List Entry)
 tick_outcome b list =

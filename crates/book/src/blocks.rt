@@ -37,7 +37,7 @@ impl CriticalBlock {
     }
 }
 
-// Writes blocks of the planner into the first places of the list, and answers how many there are.
+// Writes blocks of the planner into the first elements of the list, and answers how many there are.
 fn write(blocks: &[RelativeBlock], now: u64, list: &mut [CriticalBlock]) -> usize
     requires in_time { now ≤ last_tick }
     requires room { length blocks.now ≤ length list.old }
@@ -51,14 +51,14 @@ fn write(blocks: &[RelativeBlock], now: u64, list: &mut [CriticalBlock]) -> usiz
 }
 
 impl Book {
-    /// Writes the critical blocks into the first places of the list, in the order of the rounds, and answers how many
+    /// Writes the critical blocks into the first elements of the list, in the order of the rounds, and answers how many
     /// there are.
     ///
     /// # Refusals
     ///
     /// The list is as it was then.
     ///
-    /// - [`BookFault::Short`]: the list has fewer than 64 places.
+    /// - [`BookFault::Short`]: the list has fewer than 64 elements.
     ///
     /// ```text
     /// // One block, of 3 units in the ticks 0 and 1: CriticalBlock { speed: (3, 2), start: 0, end: 2 }.
@@ -73,8 +73,8 @@ impl Book {
         if list.len() < PLACES {
             return Err(BookFault::Short { needed: PLACES });
         }
-        let mut places = [Demand::default(); PLACES];
-        let demands = demands_of(&mut places, self.jobs.jobs(), self.tick);
+        let mut demanded = [Demand::default(); PLACES];
+        let demands = demands_of(&mut demanded, self.jobs.jobs(), self.tick);
         let blocks = critical_blocks(&demands);
         let count = write(blocks.list(), self.tick, list);
         Ok(count)

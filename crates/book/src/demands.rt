@@ -20,21 +20,17 @@ fn demand_of(job: &Job, now: u64) -> Demand
     }
 }
 
-// What the jobs demand, in these places.
-pub(super) fn demands_of<'a>(
-    places: &'a mut [Demand; PLACES],
-    jobs: &[Job],
-    now: u64,
-) -> Demands<'a>
+// What the jobs demand, written into these.
+pub(super) fn demands_of<'a>(list: &'a mut [Demand; PLACES], jobs: &[Job], now: u64) -> Demands<'a>
     requires few { length jobs.now ≤ 64 }
     requires in_order { IsInOrder jobs.now }
     requires open { All (IsOpenAt now) jobs.now }
     ensures { result ≡ demands now jobs.now }
 {
     for (index, job) in jobs.iter().enumerate() {
-        places[index] = demand_of(job, now);
+        list[index] = demand_of(job, now);
     }
     Demands {
-        list: &places[..jobs.len()],
+        list: &list[..jobs.len()],
     }
 }

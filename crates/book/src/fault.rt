@@ -32,12 +32,12 @@ pub enum BookFault {
     Overload { start: u64, end: u64, work: u32 },
     /// No open job has the ticket.
     NotOpen { ticket: u16 },
-    /// The list has fewer places than are needed.
+    /// The list has fewer elements than are needed.
     Short { needed: usize },
     /// Now is the last tick of all.
     LastTick { now: u64 },
-    /// The record with this number is the first that no lawful image, overload allowed, has after those before it; 65
-    /// where overload alone is wrong.
+    /// The image is that of no lawful book: its record with this number is the first that cannot stand where it does,
+    /// or, where the number is 65, the records can stand but an interval is overloaded.
     Image { number: usize },
 }
 

@@ -60,13 +60,13 @@ impl Book {
     ghost use Rattle.book.specs.Images.{save_outcome};
     ghost use Rattle.book.specs.Loads.{LoadsBack};
 
-    /// Writes the image of the book, 65 records of 24 bytes, into the first 1560 places of the list.
+    /// Writes the image of the book, 65 records of 24 bytes, into the first 1560 elements of the list.
     ///
     /// # Refusals
     ///
     /// The list is as it was then.
     ///
-    /// - [`BookFault::Short`]: the list has fewer than 1560 places.
+    /// - [`BookFault::Short`]: the list has fewer than 1560 elements.
     ///
     /// ```text
     /// let mut image = [0; IMAGE_LEN];

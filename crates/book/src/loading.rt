@@ -116,13 +116,13 @@ impl Book {
     ghost use Rattle.book.specs.Images.{load_outcome};
     ghost use Rattle.book.specs.Loads.{OnlyImages};
 
-    /// Makes the book the one that the image in the first 1560 places of the list says.
+    /// Makes the book the one that the image in the first 1560 elements of the list says.
     ///
     /// # Refusals
     ///
     /// The book is as it was then.
     ///
-    /// - [`BookFault::Short`]: the list has fewer than 1560 places.
+    /// - [`BookFault::Short`]: the list has fewer than 1560 elements.
     /// - [`BookFault::Image`]: by its number from 0, the first record that cannot stand where it does: no book,
     ///   overload allowed, saves an image that begins with the records up to and with this one. Or 65: every record
     ///   can stand, but an interval is overloaded.

@@ -55,8 +55,8 @@ pub(super) fn overload_fault(jobs: &[Job], now: u64, top: u8) -> Option<BookFaul
     requires open { All (IsOpenAt now) jobs.now }
     ensures { result ≡ overload_fault (record { now = now; top = top; jobs = jobs.now }) }
 {
-    let mut places = [Demand::default(); PLACES];
-    let demands = demands_of(&mut places, jobs, now);
+    let mut demanded = [Demand::default(); PLACES];
+    let demands = demands_of(&mut demanded, jobs, now);
     let (start, end) = first_overload(&demands, top)?;
     Some(BookFault::Overload {
         start: now + u64::from(start),

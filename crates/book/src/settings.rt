@@ -20,8 +20,8 @@ fn settings_in_force(jobs: &[Job], now: u64) -> [u32; HORIZON]
     ensures settings { Same horizon (listed result) (settings_in_force (demands now jobs.now)) }
     ensures in_force { InForce horizon (demands now jobs.now) (listed result) }
 {
-    let mut places = [Demand::default(); PLACES];
-    planner::settings(&demands_of(&mut places, jobs, now))
+    let mut demanded = [Demand::default(); PLACES];
+    planner::settings(&demands_of(&mut demanded, jobs, now))
 }
 
 impl Book {
@@ -43,13 +43,13 @@ impl Book {
         bytes
     }
 
-    /// Writes the settings in force, one for each tick from now on, into the first 256 places of the list.
+    /// Writes the settings in force, one for each tick from now on, into the first 256 elements of the list.
     ///
     /// # Refusals
     ///
     /// The list is as it was then.
     ///
-    /// - [`BookFault::Short`]: the list has fewer than 256 places.
+    /// - [`BookFault::Short`]: the list has fewer than 256 elements.
     ///
     /// ```text
     /// let mut settings = [0; HORIZON];

@@ -21,7 +21,7 @@ pub const PLACES: usize = planner::MOST_DEMANDS;
 #[derive(Drop)]
 pub(super) struct Table {
     places: [Job; PLACES],
-    // How many jobs are open: they stand in the first places, and what the others hold means nothing.
+    // How many jobs are open: they stand in the first elements, and what the others hold means nothing.
     count: usize,
 }
 

@@ -88,7 +88,7 @@ impl Book {
     ///
     /// The book and the list are as they were then.
     ///
-    /// - [`BookFault::Short`]: the list has fewer than 64 places.
+    /// - [`BookFault::Short`]: the list has fewer than 64 elements.
     /// - [`BookFault::LastTick`]: now is the last tick of all, 2^48 - 1.
     ///
     /// ```text

@@ -32,7 +32,7 @@ module _ (t : Tally) (b : View) (list : List Entry) (agrees : Agrees t b) where
   the_fed : Fed t es (book_after_tick b).jobs
   the_fed = fed t b agrees.lawful agrees.now agrees.same agrees.newest agrees.within
 
-  -- they stand in the first places of the list
+  -- they stand in the first elements of the list
   first_places : take (length es) (list_with es list) ≡ es
   first_places = take_at es (drop (length es) list) (length es) refl
 

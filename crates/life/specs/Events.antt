@@ -49,7 +49,7 @@ abbrev pub number_answer : Result ℕ BookFault → Answer
 number_answer (Ok n) = number n
 number_answer (Err fault) = refused fault
 
--- the entries that a call with this answer wrote: those of a tick stand in the first places of its list
+-- the entries that a call with this answer wrote: those of a tick stand in the first elements of its list
 abbrev pub entries_written : Answer → List Entry → List Entry
 entries_written done list = []
 entries_written (served s) list = take s.count list

@@ -83,7 +83,7 @@ impl Request {
     }
 }
 
-/// Makes the request of the book. The list is for the entries of a tick, which needs 64 places; the other requests
+/// Makes the request of the book. The list is for the entries of a tick, which needs 64 elements; the other requests
 /// leave it.
 ///
 /// Every life that ends in the book as it was goes on with this call: it ends in the book as it is then, and keeps

@@ -31,7 +31,7 @@ fn text(label: &[u8]) -> &str
 pub struct Bench<'a> {
     reader: Reader<'a>,
     book: Book,
-    // Whether a fault has ended the run. A flag, since a run that is over still has its input and its place in what
+    // Whether a fault has ended the run. A flag, since a run that is over still has its input and its offset in what
     // is promised.
     over: bool,
 }

@@ -15,7 +15,7 @@ pub struct Tick {
     pub now: u64,
     /// Its setting, in units of work.
     pub setting: u8,
-    /// The entries, in the first places.
+    /// The entries, in the first elements.
     pub list: [Entry; PLACES],
     /// How many there are.
     pub count: usize,

@@ -14,7 +14,7 @@ use Rattle.book.specs.Settings.{settings_of, list_with_settings}
 use Rattle.book.specs.Blocks.{blocks_of}
 use Rattle.worked_books.specs.Words.{Sets, HasBlocks}
 
--- the settings in force stand in the first places of a list that they are written into
+-- the settings in force stand in the first elements of a list that they are written into
 first_places : (b : View) (list : List ℕ) → Same horizon (listed (list_with_settings b list)) (settings_of b)
 first_places b list t lt =
     let places = map (settings_of b) (range_with_len 0 horizon) in

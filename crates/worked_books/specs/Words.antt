@@ -42,17 +42,17 @@ pub record Worked (top : ℕ) (jobs : List Job) (Says : View → Type 0) : Type 
   pub accepts : AllAccepted (book_at_0 top) jobs
   pub says : Says (book_after_offers (book_at_0 top) jobs)
 
--- given a list of 256 places, settings writes xs there, and 0 after them
+-- given a list of 256 elements, settings writes xs there, and 0 after them
 pub record Sets (b : View) (xs : List ℕ) : Type 0 where
   pub answer : (list : List ℕ) → length list ≡ 256 → (settings_outcome b list).answer ≡ Ok tt
   pub written : (list : List ℕ) → length list ≡ 256 → Same horizon (listed (settings_outcome b list).list) (listed xs)
 
--- given a list of 64 places, blocks writes the critical blocks cs into the first places, and answers their number
+-- given a list of 64 elements, blocks writes the critical blocks cs into the first elements, and answers their number
 pub record HasBlocks (b : View) (cs : List CriticalBlock) : Type 0 where
   pub answer : (list : List CriticalBlock) → length list ≡ 64 → (blocks_outcome b list).answer ≡ Ok (length cs)
   pub written : (list : List CriticalBlock) → length list ≡ 64 → take (length cs) (blocks_outcome b list).list ≡ cs
 
--- given a list of 64 places, tick writes the entries es into the first places, and answers the setting and their number
+-- given a list of 64 elements, tick writes the entries es into the first elements, and answers the setting and their number
 pub record TickServes (b : View) (setting : ℕ) (es : List Entry) : Type 0 where
   pub answer : (list : List Entry) → length list ≡ 64
       → (tick_outcome b list).answer ≡ Ok (record { setting = setting; count = length es })

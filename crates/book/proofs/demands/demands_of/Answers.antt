@@ -9,6 +9,6 @@ pub invariant_of-result : goal.invariant_of-result
 invariant_of-result c =
     let js = c.args.jobs.now in
     let done : c.loop-index.index ≡ length js = omega arith in
-    let all : take (length js) c.loop-index.places ≡ demands c.args.now js =
-    subst (λ k. take k c.loop-index.places ≡ demands c.args.now (take k js)) done c.loop-index.invariant ∙ ap (demands c.args.now) (take-length js) in
+    let all : take (length js) c.loop-index.list ≡ demands c.args.now js =
+    subst (λ k. take k c.loop-index.list ≡ demands c.args.now (take k js)) done c.loop-index.invariant ∙ ap (demands c.args.now) (take-length js) in
     subst IsPlannable (sym all) (plannable-demands c.args.now js c.requires.few c.requires.in_order c.requires.open)
