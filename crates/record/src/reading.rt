@@ -86,8 +86,8 @@ impl<'a> Reader<'a> {
 
     /// The next record, or `None` at the end of the input.
     ///
-    /// A record that is refused whole is passed over, and the next call goes on after it. At the end of the input, and
-    /// at a cut record, the reader stays where it is.
+    /// A whole record that is refused is passed over, and the next call reads the one after it. At the end of the
+    /// input, and at a cut record, the reader stays where it is.
     ///
     /// # Refusals
     ///

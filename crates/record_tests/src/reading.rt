@@ -1,21 +1,20 @@
 use super::samples::{OFFER, STRIKE, TICK};
-use layout::{Offer, ReadFault, Record};
-use record::{Reader, shown};
+use record::{Job, Offer, ReadFault, Reader, Record, shown};
 use std::process::Abort;
 use std::test::Fail;
 
-// What may stand at each place: k the kind, z zero, n any byte of a number, p a byte of a label, s a space.
-const OFFER_PLACES: &[u8; 24] = b"kznnnnnnnnnnnnnnnnpppppp";
+// What may stand at each byte: k the kind, z zero, n any byte of a number, p a byte of a label, s a space.
+const OFFER_CODES: &[u8; 24] = b"kznnnnnnnnnnnnnnnnpppppp";
 
-const STRIKE_PLACES: &[u8; 24] = b"kznnzzzzzzzzzzzzzzssssss";
+const STRIKE_CODES: &[u8; 24] = b"kznnzzzzzzzzzzzzzzssssss";
 
-const TICK_PLACES: &[u8; 24] = b"kzzzzzzzzzzzzzzzzzssssss";
+const TICK_CODES: &[u8; 24] = b"kzzzzzzzzzzzzzzzzzssssss";
 
-// The edges of each of these.
+// The edges of the bytes that each of these allows.
 const EDGES: [u8; 8] = [0x00, 0x01, 0x1f, 0x20, 0x21, 0x7e, 0x7f, 0xff];
 
-fn may_stand(offset: u8, byte: u8) -> bool {
-    match offset {
+fn may_stand(code: u8, byte: u8) -> bool {
+    match code {
         b'z' => byte == 0,
         b'n' => true,
         b'p' => matches!(byte, 0x20..=0x7e),
@@ -24,60 +23,62 @@ fn may_stand(offset: u8, byte: u8) -> bool {
     }
 }
 
-// The fault of the first record, and the place after it.
+// The fault of the first record, and the offset after it.
 fn first_fault(input: &[u8]) -> (Option<ReadFault>, usize) {
     let mut reader = Reader::new(input);
-    let fault = reader.next().err();
+    let fault = reader.read().err();
     (fault, reader.offset())
 }
 
-// Every edge at one place of a record.
-fn check_place(rt: &impl Abort, good: [u8; 24], at: usize, offset: u8) {
+// Every edge at one byte of a record.
+fn check_byte(rt: &impl Abort, good: [u8; 24], at: usize, code: u8) {
     assert!(rt; at < 24);
     for byte in EDGES {
         let mut bytes = good;
         bytes[at] = byte;
-        let fault = (!may_stand(offset, byte)).then_some(ReadFault::Forbidden { offset: at });
+        let fault = (!may_stand(code, byte)).then_some(ReadFault::Forbidden { offset: at });
         assert_eq!(rt; first_fault(&bytes), (fault, 24));
     }
 }
 
-fn check_places(rt: &impl Abort, good: [u8; 24], places: &[u8; 24]) {
-    for (at, offset) in places.iter().enumerate().skip(1) {
-        check_place(rt, good, at, *offset);
+fn check_bytes(rt: &impl Abort, good: [u8; 24], codes: &[u8; 24]) {
+    for (at, code) in codes.iter().enumerate().skip(1) {
+        check_byte(rt, good, at, *code);
     }
 }
 
 #[test]
 fn an_offer_has_its_layout(rt: HostRuntime) {
-    check_places(&rt, OFFER, OFFER_PLACES);
+    check_bytes(&rt, OFFER, OFFER_CODES);
 }
 
 #[test]
 fn a_strike_has_its_layout(rt: HostRuntime) {
-    check_places(&rt, STRIKE, STRIKE_PLACES);
+    check_bytes(&rt, STRIKE, STRIKE_CODES);
 }
 
 #[test]
 fn a_tick_has_its_layout(rt: HostRuntime) {
-    check_places(&rt, TICK, TICK_PLACES);
+    check_bytes(&rt, TICK, TICK_CODES);
 }
 
 #[test]
 fn each_kind_is_read(rt: HostRuntime) {
     let offer = Offer {
-        ticket: 7,
-        arrival: 0x0102_0304_0506,
-        deadline: 0x0708_090a_0b0c,
-        work: 0x0d0e,
-        label: b"fader".as_slice(),
+        job: Job {
+            ticket: 7,
+            arrival: 0x0102_0304_0506,
+            deadline: 0x0708_090a_0b0c,
+            work: 0x0d0e,
+        },
+        label: b"fader",
     };
-    assert_eq!(rt; Reader::new(&OFFER).next(), Ok(Some(Record::Offer(offer))));
+    assert_eq!(rt; Reader::new(&OFFER).read(), Ok(Some(Record::Offer(offer))));
     assert_eq!(rt;
-        Reader::new(&STRIKE).next(),
+        Reader::new(&STRIKE).read(),
         Ok(Some(Record::Strike { ticket: 0x0102 }))
     );
-    assert_eq!(rt; Reader::new(&TICK).next(), Ok(Some(Record::Tick)));
+    assert_eq!(rt; Reader::new(&TICK).read(), Ok(Some(Record::Tick)));
 }
 
 #[test]
@@ -104,11 +105,11 @@ fn a_cut_record_is_not_passed(rt: HostRuntime) {
 
 #[test]
 fn the_input_ends_after_whole_records(rt: HostRuntime) {
-    assert_eq!(rt; Reader::new(b"").next(), Ok(None));
+    assert_eq!(rt; Reader::new(b"").read(), Ok(None));
     let mut reader = Reader::new(&TICK);
-    assert_eq!(rt; reader.next(), Ok(Some(Record::Tick)));
-    assert_eq!(rt; reader.next(), Ok(None));
-    assert_eq!(rt; reader.next(), Ok(None));
+    assert_eq!(rt; reader.read(), Ok(Some(Record::Tick)));
+    assert_eq!(rt; reader.read(), Ok(None));
+    assert_eq!(rt; reader.read(), Ok(None));
     assert_eq!(rt; reader.offset(), 24);
 }
 
@@ -120,11 +121,11 @@ fn bad_records_are_passed_over(rt: HostRuntime) {
     input[41] = 1;
     input[48..72].copy_from_slice(&STRIKE);
     let mut reader = Reader::new(&input);
-    assert_eq!(rt; reader.next(), Err(ReadFault::UnknownKind { offset: 0 }));
-    assert_eq!(rt; reader.next(), Err(ReadFault::Forbidden { offset: 41 }));
-    assert_eq!(rt; reader.next(), Ok(Some(Record::Strike { ticket: 0x0102 })));
+    assert_eq!(rt; reader.read(), Err(ReadFault::UnknownKind { offset: 0 }));
+    assert_eq!(rt; reader.read(), Err(ReadFault::Forbidden { offset: 41 }));
+    assert_eq!(rt; reader.read(), Ok(Some(Record::Strike { ticket: 0x0102 })));
     assert_eq!(rt; reader.offset(), 72);
-    assert_eq!(rt; reader.next(), Err(ReadFault::Cut { offset: 72 }));
+    assert_eq!(rt; reader.read(), Err(ReadFault::Cut { offset: 72 }));
     assert_eq!(rt; reader.offset(), 72);
 }
 
@@ -133,7 +134,7 @@ fn check_label(rt: &impl Abort, six: &[u8; 6], want: &[u8]) -> Result<(), Fail> 
     let mut bytes = OFFER;
     bytes[18..24].copy_from_slice(six);
     let mut reader = Reader::new(&bytes);
-    let Ok(Some(Record::Offer(offer))) = reader.next() else {
+    let Ok(Some(Record::Offer(offer))) = reader.read() else {
         return Err(Fail::new("no offer was read"));
     };
     assert_eq!(rt; offer.label, want);
@@ -158,23 +159,4 @@ fn a_blank_label_shows_the_default(rt: HostRuntime) {
     assert_eq!(rt; shown(b"x", b"house"), b"x".as_slice());
     assert_eq!(rt; shown(b" x", b"house"), b" x".as_slice());
     assert_eq!(rt; shown(b"", b""), b"".as_slice());
-}
-
-#[test]
-fn another_label_leaves_the_numbers(rt: HostRuntime) {
-    let offer = Offer {
-        ticket: 1,
-        arrival: 2,
-        deadline: 3,
-        work: 4,
-        label: b"fader".as_slice(),
-    };
-    let named = Offer {
-        ticket: 1,
-        arrival: 2,
-        deadline: 3,
-        work: 4,
-        label: "house",
-    };
-    assert_eq!(rt; offer.with_label("house"), named);
 }

@@ -1,16 +1,18 @@
 use super::samples::{OFFER, STRIKE, TICK};
-use layout::{Offer, Record, WriteFault, WrittenField};
-use record::{Reader, write};
+use record::{Job, Offer, Reader, Record, WriteFault, WrittenField, write};
 use std::process::Abort;
 
-const MAX_TICK: u64 = 281_474_976_710_655;
+// The greatest number in six bytes.
+const LAST_TICK: u64 = 281_474_976_710_655;
 
 fn offer(arrival: u64, deadline: u64, label: &[u8]) -> Record<'_> {
     Record::Offer(Offer {
-        ticket: 65_535,
-        arrival,
-        deadline,
-        work: 65_535,
+        job: Job {
+            ticket: 65_535,
+            arrival,
+            deadline,
+            work: 65_535,
+        },
         label,
     })
 }
@@ -27,10 +29,12 @@ fn check_written(rt: &impl Abort, entry: &Record, want: &[u8; 24]) {
 #[test]
 fn each_kind_is_written(rt: HostRuntime) {
     let entry = Record::Offer(Offer {
-        ticket: 7,
-        arrival: 0x0102_0304_0506,
-        deadline: 0x0708_090a_0b0c,
-        work: 0x0d0e,
+        job: Job {
+            ticket: 7,
+            arrival: 0x0102_0304_0506,
+            deadline: 0x0708_090a_0b0c,
+            work: 0x0d0e,
+        },
         label: b"fader ",
     });
     check_written(&rt, &entry, &OFFER);
@@ -55,13 +59,13 @@ fn check_field(rt: &impl Abort, entry: &Record, field: WrittenField) {
 fn fields_that_do_not_fit_are_refused_in_order(rt: HostRuntime) {
     check_field(
         &rt,
-        &offer(MAX_TICK + 1, MAX_TICK + 1, b"fader"),
+        &offer(LAST_TICK + 1, LAST_TICK + 1, b"fader"),
         WrittenField::Arrival,
     );
     check_field(&rt, &offer(u64::MAX, 0, b"fader "), WrittenField::Arrival);
     check_field(
         &rt,
-        &offer(MAX_TICK, MAX_TICK + 1, b"fader"),
+        &offer(LAST_TICK, LAST_TICK + 1, b"fader"),
         WrittenField::Deadline,
     );
     check_field(&rt, &offer(0, u64::MAX, b"fader "), WrittenField::Deadline);
@@ -80,7 +84,7 @@ fn check_too_short(rt: &impl Abort, entry: &Record) {
 
 #[test]
 fn a_short_list_is_refused(rt: HostRuntime) {
-    check_too_short(&rt, &offer(MAX_TICK, MAX_TICK, b"  ~~  "));
+    check_too_short(&rt, &offer(LAST_TICK, LAST_TICK, b"  ~~  "));
     check_too_short(&rt, &Record::Strike { ticket: 1 });
     check_too_short(&rt, &Record::Tick);
 }
@@ -88,8 +92,8 @@ fn a_short_list_is_refused(rt: HostRuntime) {
 // The records stand in a file one after another.
 fn file_of(rt: &impl Abort, entries: &[Record; 4]) -> [u8; 96] {
     let mut file = [0u8; 96];
-    for (entry, offset) in entries.iter().zip(file.chunks_mut(24)) {
-        assert_eq!(rt; write(entry, offset), Ok(()));
+    for (entry, bytes) in entries.iter().zip(file.chunks_mut(24)) {
+        assert_eq!(rt; write(entry, bytes), Ok(()));
     }
     file
 }
@@ -97,16 +101,16 @@ fn file_of(rt: &impl Abort, entries: &[Record; 4]) -> [u8; 96] {
 #[test]
 fn what_is_written_reads_back(rt: HostRuntime) {
     let entries = [
-        offer(MAX_TICK, 0, b" ~ ~  "),
+        offer(LAST_TICK, 0, b" ~ ~  "),
         Record::Strike { ticket: 65_535 },
         Record::Tick,
-        offer(0, MAX_TICK, b"      "),
+        offer(0, LAST_TICK, b"      "),
     ];
     let file = file_of(&rt, &entries);
     let mut reader = Reader::new(&file);
-    assert_eq!(rt; reader.next(), Ok(Some(offer(MAX_TICK, 0, b" ~ ~"))));
-    assert_eq!(rt; reader.next(), Ok(Some(Record::Strike { ticket: 65_535 })));
-    assert_eq!(rt; reader.next(), Ok(Some(Record::Tick)));
-    assert_eq!(rt; reader.next(), Ok(Some(offer(0, MAX_TICK, b""))));
-    assert_eq!(rt; reader.next(), Ok(None));
+    assert_eq!(rt; reader.read(), Ok(Some(offer(LAST_TICK, 0, b" ~ ~"))));
+    assert_eq!(rt; reader.read(), Ok(Some(Record::Strike { ticket: 65_535 })));
+    assert_eq!(rt; reader.read(), Ok(Some(Record::Tick)));
+    assert_eq!(rt; reader.read(), Ok(Some(offer(0, LAST_TICK, b""))));
+    assert_eq!(rt; reader.read(), Ok(None));
 }
