@@ -10,7 +10,8 @@ from rules import Refused
 LIMIT = 65_520
 TOP = 4
 
-SAMPLE = (offer(7, 0, 2, 3, b'fader') + offer(9, 0, 3, 1) + TICK + offer(5, 1, 2, 5) + TICK + offer(5, 2, 3, 1, b'cue\0'))
+SAMPLE = b''.join((offer(7, 0, 2, 3, b'fader'), offer(9, 0, 3, 1), TICK, offer(5, 1, 2, 5), TICK,
+                   offer(5, 2, 3, 1, b'cue\0')))
 SAMPLE_LINES = b'O 7 ok fader\nO 9 ok house\nT 0 2 7:2\nR 72 8 1 2 6\nT 1 1 7:1\nR 120 3 141\n'
 
 
@@ -67,7 +68,7 @@ class File(Calls):
         self.add(*map(strike, self.chance.sample(open_tickets, len(open_tickets) // 2)))
 
     def phase(self):
-        """One of: many small jobs, more work than can be done (twice), some work, little work, only ticks, or strikes."""
+        """Many small jobs, more work than can be done (two ways), some work, little work, only ticks, or strikes."""
         phases = ((110, 0.02, 256, 0.9, 0.04), (60, 3, 9, 0.6, 0.3), (60, 2, 99, 0.6, 0.3), (60, 1, 60, 0.3, 0.6),
                   (60, 0.3, 12, 0.3, 0.6), (80, 1, 1, 0, 1), None)
         phase = self.chance.choice(phases)
@@ -98,7 +99,8 @@ def field_edges(file):
     now = file.book.now
     file.add(offer(0, now + 2, now + 1, 0), offer(1, now + 2, now + 1, 0), offer(1, now + 2, now + 2, 1),
              offer(1, now + 2, now + 3, 0))
-    file.add(offer(1, now, now + 257, 1), offer(1, now, now + 256, 1), offer(1, now, now + 256, 1), strike(1), strike(1))
+    file.add(offer(1, now, now + 257, 1), offer(1, now, now + 256, 1), offer(1, now, now + 256, 1))
+    file.add(strike(1), strike(1))
     file.add(offer(1, now, now + 256, 1_025), offer(1, now, now + 256, 65_535), offer(1, now, now + 256, 1_024))
     file.add(offer(2, now + 255, now + 256, 1), strike(1))
 

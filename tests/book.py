@@ -1,7 +1,7 @@
 """The book: its calls as docs/RULES.md says them.
 
-The settings in force are found from above: they start at the top and are lowered as long as every interval can hold the
-work inside it.
+The settings in force are found from above: they start at the top and are lowered as long as every interval can hold
+the work inside it.
 """
 import bisect
 import collections
@@ -37,10 +37,10 @@ def first_overload(top, demands):
 class Lowering:
     """Settings that are lowered from the top.
 
-    A list does the work where no interval from a start to an end has more work inside than the list has units there. So all
-    ticks start at the top, and level by level, the last tick first, each is lowered by 1 unless an interval around it would
-    lack units. A tick that can't be lowered stays as it is from then on. The intervals around each tick of a piece, between
-    two cuts that follow one another, are the same.
+    A list does the work where no interval from a start to an end has more work inside than the list has units there.
+    So all ticks start at the top, and level by level, the last tick first, each is lowered by 1 unless an interval
+    around it would lack units. A tick that can't be lowered stays as it is from then on. The intervals around each tick
+    of a piece, between two cuts that follow one another, are the same.
     """
 
     def __init__(self, ticks, top, demands):
@@ -181,7 +181,7 @@ class Book:
     def said_by(self, image):
         """The book of an image, which may be overloaded.
 
-        The first wrong record is the first up to which the image is not that of the book which the records up to there say.
+        The first wrong record is the first up to which the image is not that of the book that the records so far say.
         """
         records = codec.records_in(image)
         first = codec.numbers(records[0])

@@ -6,7 +6,7 @@ from rules import HORIZON, LAST_TICK
 
 
 class Calls:
-    """A file that grows call by call, and the book after them. What adds a call is left to those who derive from it."""
+    """A file that grows call by call, and the book after them. How a call is added is left to those who derive."""
 
     def __init__(self, seed, book):
         self.chance = random.Random(seed)
@@ -25,7 +25,7 @@ class Calls:
         return chance.choice((b'fader', b'cue', b'', bytes(chance.randrange(0x20, 0x7F) for _ in range(6))))
 
     def sensible_offer(self, most, longest):
-        """An offer within its bounds, its window no longer than asked, its work at most so many units for each tick of it."""
+        """An offer within its bounds, with no longer window than asked and at most so many units a tick."""
         now, chance = self.book.now, self.chance
         ahead = chance.choice((0, 0, chance.randrange(4), chance.randrange(40), chance.randrange(HORIZON)))
         longest = min(longest, HORIZON - ahead)

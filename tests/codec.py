@@ -1,4 +1,4 @@
-"""Records, images and the items of a file for `questions`: to bytes and from bytes, as docs/FORMATS.md lays them out."""
+"""Records, images, and the items that `questions` reads, to bytes and from bytes, as docs/FORMATS.md has them."""
 import dataclasses
 import struct
 

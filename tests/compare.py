@@ -1,14 +1,14 @@
 #!/usr/bin/env python3
-"""Compares what is stored, or what the programs print, with what these files work out.
+"""Compares what is stored, or what the programs print, with what the modules here work out.
 
     tests/compare.py                        check the stored files
     tests/compare.py --write                write the stored files anew
-    tests/compare.py --against NAME=PATH    run the built program PATH on files made by chance, and compare what it prints;
+    tests/compare.py --against NAME=PATH    run the built program PATH on files made by chance, and compare its output;
                                             NAME is bench or questions, and both can be given
     tests/compare.py --print NAME=FILE      print what bench or questions has to print for FILE
 
-They follow docs/FORMATS.md and docs/RULES.md, and share no code with the programs. Small books are answered by an exhaustive
-search over all sharings and all pairs (schedule.py), and larger ones by a book of its own (book.py).
+The modules follow docs/FORMATS.md and docs/RULES.md, and share no code with the programs. Small books are answered by
+an exhaustive search over all sharings and all pairs (schedule.py), and larger ones by a book of its own (book.py).
 """
 import argparse
 import pathlib
@@ -33,31 +33,39 @@ def stored(file):
     return {**bench.stored(), **lives.stored(file), **schedule.stored()}
 
 
-def is_stored(path, held):
-    return (ROOT / path).is_file() and (ROOT / path).read_bytes() == held
+def wrongly_stored(files):
+    """The stored files that hold something else."""
+    for name, held in files.items():
+        path = ROOT / name
+        if not path.is_file() or path.read_bytes() != held:
+            yield f'{name} is not what it has to be'
 
 
-def faults(file):
-    """What is not as it has to be."""
-    yield from (f'{path} is not what it has to be' for path, held in stored(file).items() if not is_stored(path, held))
+def disagreements(file):
+    """Where the oracle differs from an example worked by hand, or from itself."""
     if bench.transcript(bench.SAMPLE) != bench.SAMPLE_LINES:
         yield 'the example of docs/FORMATS.md is answered otherwise'
     if questions.output(bytes(file.data)) != file.run.output():
         yield 'search and book answer the file of questions otherwise'
     if small.unlike():
         yield 'search and book answer small books otherwise'
-    yield from (f'no call of questions answers {name}' for name in lives.missing(file.answers))
+
+
+def gaps(file):
+    """The answers that no call gets."""
+    return (f'no call of questions answers {name}' for name in lives.missing(file.answers))
 
 
 def check():
     """Checks the stored files. Answers whether all is as it has to be."""
     file = lives.whole()
-    found = list(faults(file))
-    for fault in found:
+    files = stored(file)
+    faults = [*wrongly_stored(files), *disagreements(file), *gaps(file)]
+    for fault in faults:
         print(f'compare.py: {fault}')
     print(f'compare.py: questions are asked after {lives.summary(file)}')
-    print(f'compare.py: {len(stored(file))} stored files and 4 checks of the oracle, {len(found)} faults')
-    return not found
+    print(f'compare.py: {len(files)} stored files compared, {len(faults)} faults')
+    return not faults
 
 
 def write():
@@ -95,7 +103,7 @@ def arguments():
     parser = argparse.ArgumentParser(description=__doc__, formatter_class=argparse.RawDescriptionHelpFormatter)
     ways = parser.add_mutually_exclusive_group()
     ways.add_argument('--write', action='store_true', help='write the stored files anew')
-    ways.add_argument('--against', nargs='+', type=named, metavar='NAME=PATH', help='compare what built programs print')
+    ways.add_argument('--against', nargs='+', type=named, metavar='NAME=PATH', help='compare what programs print')
     ways.add_argument('--print', type=named, metavar='NAME=FILE', help='print what a program has to print')
     return parser.parse_args()
 

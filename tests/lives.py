@@ -1,4 +1,4 @@
-"""The files that `questions` is tried on: calls in the lives of small books, which the exhaustive search answers, and others."""
+"""The files that `questions` is tried on: calls in the lives of small books, which a search answers, and of others."""
 import collections
 import dataclasses
 import functools
@@ -77,7 +77,8 @@ def answer_len(said):
 def new_book(file):
     """Calls of a new book, which is at 0 with top 1."""
     file.lives['Book'] += 1
-    file.add(TICK, strike(1), offer(1, 1, 3, 3), offer(1, 1, 3, 2), offer(1, 2, 4, 1), offer(2, 1, 257, 254), *[TICK] * 3)
+    file.add(TICK, strike(1), offer(1, 1, 3, 3), offer(1, 1, 3, 2), offer(1, 2, 4, 1), offer(2, 1, 257, 254))
+    file.add(*[TICK] * 3)
 
 
 def worked_books(file):
@@ -117,15 +118,20 @@ def field_edges(file):
         file.add(strike(0), strike(1), strike(9), strike(9), TICK, TICK)
 
 
+def again(ticket, job, work=None):
+    """An offer of the job under another ticket."""
+    return offer(ticket, job.arrival, job.deadline, work or job.work)
+
+
 def fill(file, top, demands):
     """Opens 64 jobs, and asks at the edges of what the book can do."""
     now = file.chance.randrange(10_000)
     jobs = [Job(65_535 - i, now + start, now + end, work) for i, (start, end, work) in enumerate(demands)]
     file.begin(Book, now, top, jobs[:62])
-    first, (_, a, d, work), (_, e, f, last) = jobs[0], *map(dataclasses.astuple, jobs[62:])
-    file.add(offer(3, a, d, work), offer(4, e, f, last), strike(4))
-    file.add_edge(4, e, f)
-    file.add(offer(4, e, f, 1), offer(5, e, f, 1), offer(5, e, f, 65_535), offer(0, now, now + 1, 1))
+    first, (next_to_last, last) = jobs[0], jobs[62:]
+    file.add(again(3, next_to_last), again(4, last), strike(4))
+    file.add_edge(4, last.arrival, last.deadline)
+    file.add(again(4, last, 1), again(5, last, 1), again(5, last, 65_535), offer(0, now, now + 1, 1))
     file.add(offer(6, now, now + 257, 1), strike(first.ticket))
     file.add_edge(first.ticket, first.arrival, first.deadline)
     file.add(*[TICK] * 2)
@@ -247,7 +253,8 @@ def crowded_images(file, now):
 def images(file):
     """Images of books at one tick, of which most are wrong."""
     now = 5_000
-    full = Book.of(now, 9, [Job(500 + 3 * i, now - 100 + 2 * i, now + 40 + 2 * (i // 2), 1 + i % 5) for i in range(64)])
+    jobs = [Job(500 + 3 * i, now - 100 + 2 * i, now + 40 + 2 * (i // 2), 1 + i % 5) for i in range(64)]
+    full = Book.of(now, 9, jobs)
     file.begin(Book, 44, 3, [Job(7, 40, 50, 6)])
     images_of_one_job(file, now)
     images_of_all_numbers(file, full)
@@ -272,8 +279,8 @@ def long_life(file, top, most, longest):
 
 def long_lives(file):
     """Lives of larger books: long windows, many jobs, tops up to 255."""
-    for kind in ((1, 0.05, 256), (4, 2, 20), (16, 3, 256), (64, 20, 200), (200, 90, 256), (255, 40, 256), (255, 255, 30),
-                 (255, 300, 256)):
+    for kind in ((1, 0.05, 256), (4, 2, 20), (16, 3, 256), (64, 20, 200), (200, 90, 256), (255, 40, 256),
+                 (255, 255, 30), (255, 300, 256)):
         long_life(file, *kind)
 
 
@@ -367,7 +374,8 @@ def small_life(file):
     chance = file.chance
     ticks = chance.randrange(2, 8)
     top = chance.randrange(1, {2: 9, 3: 8, 4: 7, 5: 5, 6: 4, 7: 3}[ticks])
-    now = chance.choice((0, 0, chance.randrange(100), chance.randrange(2 ** 48 - 300), LAST_TICK - chance.randrange(8)))
+    now = chance.choice((0, 0, chance.randrange(100), chance.randrange(LAST_TICK - 299),
+                         LAST_TICK - chance.randrange(8)))
     jobs = small_jobs(file, now, ticks, top)
     while schedule.first_overload(top, Book(now, top, jobs).demands()):
         jobs.popitem()

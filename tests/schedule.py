@@ -1,7 +1,7 @@
 """A search of its own for settings in force, overload, serving and critical blocks of small books.
 
-It goes through all sharings, all lists and all pairs, as docs/RULES.md says them. The stored cases are definitions of the
-crate `schedule`, which proves that its own definitions answer the same.
+It goes through all sharings, all lists and all pairs, as docs/RULES.md says them. The stored cases are definitions of
+the crate `schedule`, which proves that its own definitions answer the same.
 """
 import dataclasses
 import functools
@@ -132,7 +132,8 @@ def served(setting, demands):
 
 def left(demands, got):
     """What is left of each demand one tick later."""
-    return [Demand(max(demand.start - 1, 0), demand.end - 1, demand.units - units) for demand, units in zip(demands, got)]
+    later = [(max(demand.start - 1, 0), demand.end - 1) for demand in demands]
+    return [Demand(*window, demand.units - units) for window, demand, units in zip(later, demands, got)]
 
 
 MODELS = [lambda s: s, lambda s: 10 + s ** 3, lambda s: max(s, 2) ** 3, lambda s: max(s - 1, 0)]
@@ -144,7 +145,7 @@ def draws(lists):
 
 
 def fastest(seen, free):
-    """The pair of compressed times with the greatest work over length; then the least first, then the greatest second."""
+    """The pair of compressed times with the most work over length; then the least first, then the greatest second."""
     pairs = itertools.combinations(range(free + 1), 2)
     return max(pairs, key=lambda pair: (Fraction(work_inside(seen, *pair), pair[1] - pair[0]), -pair[0], pair[1]))
 

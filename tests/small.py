@@ -41,7 +41,7 @@ class SmallBook(Book):
         return [block.told_at(self.now) for block in schedule.blocks(ticks, self.demands())]
 
     def bill(self, model):
-        """The least that a list draws which does the work: draws never fall, so some list that is the least is exact."""
+        """The least that a list draws which does the work. Draws never fall, so an exact list is among the least."""
         ticks, exact = self.within_top(self.demands())
         return min(sum(map(model, load)) for load in exact) + (HORIZON - ticks) * model(0)
 

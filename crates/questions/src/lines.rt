@@ -9,8 +9,9 @@ struct Bytes<'a>(&'a [u8; RECORD_LEN]);
 
 impl fmt::Display for Bytes<'_> {
     fn fmt<W: fmt::Write>(&self, f: &mut fmt::Formatter<W>) -> fmt::Result {
-        let zeros = self.0.iter().rev().take_while(|byte| **byte == 0).count();
-        for byte in &self.0[..RECORD_LEN - zeros] {
+        let record = self.0;
+        let zeros = record.iter().rev().take_while(|byte| **byte == 0).count();
+        for byte in &record[..RECORD_LEN - zeros] {
             if *byte == 0 {
                 write!(f, ".")?;
             } else {
@@ -21,7 +22,7 @@ impl fmt::Display for Bytes<'_> {
     }
 }
 
-// Answers, after what was answered before. `{}` writes a line for each question, or one for all where they are the same.
+// Answers, after those before them. `{}` writes a line for each question, or one for all where none has changed.
 #[derive(Clone, Copy)]
 pub(super) struct Lines<'a> {
     answers: &'a Answers,

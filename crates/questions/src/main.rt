@@ -1,13 +1,13 @@
-// Reads a file of images and records from standard input and works it with one book. After each it prints what the call
-// answered, and then what every question answers, or `as before` where all four answer what they did before the call:
+// Reads a file of images and records from standard input and works it with one book. After each it prints what the
+// call answered, and then what every question answers, or `as before` where all four answer what they did before:
 //
 //     O 7 ok                    an offer, as S of a strike, T of a tick and L of an image that is loaded
 //     R 8 1 2 6                 a call that is refused
 //     settings 2*1 1*2 0*253    the settings in force in runs: the setting, and how many ticks have it
 //     blocks 4/3@0-3            each critical block: work, length, first tick, the tick after the last
 //     bills 2570 10 .. 2048 5   what the settings in force draw under each model
-//     image 0:43.. same         the records of the book's image that are new in it, and whether another book that has loaded it
-//                               saves the same
+//     image 0:43.. same         the records that the book's image has not had before, and whether another book that has
+//                               loaded it saves the same
 #![tactic(auto)]
 
 mod answers;

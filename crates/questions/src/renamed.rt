@@ -1,4 +1,4 @@
-// TODO-RENAME: what the crate `life` is to have under these names. When it has, this file goes, and call.rt takes them from there.
+// TODO-RENAME: what the crate `life` is to have under these names. Then this file goes, and call.rt takes them from it.
 use book::{Book, BookFault, Entry, Job, Served};
 use layout::{Offer, Record};
 
