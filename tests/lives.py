@@ -1,18 +1,15 @@
 """The files that `questions` is tried on: calls in the lives of small books, which a search answers, and of others."""
 import collections
-import dataclasses
-import functools
 import pathlib
 
-import schedule
 from bench import words
-from book import Book
+from book import Book, first_overload
 from chance import Calls
-from codec import (BLANK, IMAGE_ITEM, IMAGE_RECORDS, RECORD_LEN, TICK, clock, image_item, numbers, offer, open_job,
-                   records_in, strike)
+from codec import IMAGE_ITEM, IMAGE_RECORDS, RECORD_LEN, TICK, image_item, offer, open_job, strike
 from questions import Run
-from rules import HORIZON, LAST_TICK, PLACES, Job, Refused
-from small import SmallBook
+from rules import LAST_TICK, PLACES, Job
+from small_lives import small_life
+from wrong_images import wrong_images
 
 
 class File(Calls):
@@ -52,7 +49,7 @@ class File(Calls):
         while fails - fits > 1:
             work = (fits + fails) // 2
             demand = Job(0, arrival, deadline, work).seen_from(self.book.now)
-            if Book.overload(self.book, [*self.book.demands(), demand]):
+            if first_overload(self.book.top, [*self.book.demands(), demand]):
                 fails = work
             else:
                 fits = work
@@ -149,77 +146,6 @@ def full_books(file):
     fill(file, 255, [(0, 256, 1_020)] * 64)
 
 
-def changed(record, at, byte):
-    return record[:at] + bytes([byte]) + record[at + 1:]
-
-
-def with_spaces(record):
-    """The record with a space at each byte of its end."""
-    return [changed(record, at, 0x20) for at in range(18, RECORD_LEN)]
-
-
-def wrong_clocks(book):
-    """Records of now and the top of which most are wrong."""
-    record = clock(book.now, book.top)
-    tops = [clock(book.now, top) for top in (0, 1, 255, 256, 65_535)]
-    spoilt = [changed(record, at, byte) for at, byte in ((1, 1), (2, 1), (3, 9), (10, 1), (15, 3))]
-    return tops + spoilt + with_spaces(record)
-
-
-def wrong_fields(now, job):
-    """Open jobs with other fields, of which most are wrong."""
-    other = functools.partial(dataclasses.replace, job)
-    starts = (job.deadline - 257, job.deadline - 256, job.deadline, job.deadline + 1)
-    ends = (now + 256, now + 257)
-    return [
-        other(ticket=0),
-        other(work=0),
-        other(arrival=max(now - 1, 0), deadline=now),
-        *(other(arrival=start) for start in starts if 0 <= start <= LAST_TICK),
-        *(other(arrival=end - 256, deadline=end) for end in ends if 256 <= end <= LAST_TICK),
-    ]
-
-
-def wrong_orders(before, job):
-    """Open jobs that can't follow those before."""
-    first, last = before[0], before[-1]
-    tickets = [dataclasses.replace(job, ticket=first.ticket), dataclasses.replace(job, ticket=last.ticket)]
-    return tickets + [dataclasses.replace(last, ticket=max(last.ticket - 1, 1)), last]
-
-
-def wrong_jobs(book, before, record):
-    """Records of an open job, after those of others, of which most are wrong."""
-    job = numbers(record)
-    jobs = wrong_fields(book.now, job) + (wrong_orders(before, job) if before else [])
-    kinds = [changed(record, 0, byte) for byte in (0x00, 0x43, 0x4B, 0x4F)]
-    return [*map(open_job, jobs), *kinds, changed(record, 1, 1), *with_spaces(record), BLANK]
-
-
-def wrong_blanks(book):
-    """Records after those of the open jobs of which most are wrong."""
-    job = open_job(Job(65_535, book.now, min(book.now + HORIZON, LAST_TICK), 1))
-    return [changed(BLANK, at, 1) for at in range(RECORD_LEN)] + [changed(BLANK, 0, 0x4A), job, b' ' * RECORD_LEN]
-
-
-def wrong_records(book, records, number):
-    """Other records of that number, of which most are wrong there."""
-    if number == 0:
-        return wrong_clocks(book)
-    if number > len(book.jobs):
-        return wrong_blanks(book)
-    return wrong_jobs(book, [numbers(record) for record in records[1:number]], records[number])
-
-
-def wrong_images(book, number):
-    """Images of the book with another record of that number. Most are wrong there."""
-    records = records_in(book.save())
-    before, record, after = records[:number], records[number], records[number + 1:]
-    found = [[*before, other, *after] for other in wrong_records(book, records, number)]
-    if 0 < number < len(book.jobs):
-        found.append([*before, after[0], record, *after[1:]])
-    return [b''.join(image) for image in found]
-
-
 def images_of_one_job(file, now):
     """All wrong images of a book with one job."""
     book = Book.of(now, 9, [Job(3, now - 7, now + 9, 4)])
@@ -282,107 +208,6 @@ def long_lives(file):
     for kind in ((1, 0.05, 256), (4, 2, 20), (16, 3, 256), (64, 20, 200), (200, 90, 256), (255, 40, 256),
                  (255, 255, 30), (255, 300, 256)):
         long_life(file, *kind)
-
-
-def small_window(file, ticks):
-    """A window of a small book; near the last tick it may be none."""
-    start = file.book.now + file.chance.randrange(ticks)
-    end = file.chance.randrange(start + 1, file.book.now + ticks + 1)
-    return min(start, LAST_TICK), min(end, LAST_TICK)
-
-
-def small_jobs(file, now, ticks, top):
-    """The jobs of a small book by ticket, some of which came before now. They may overload it."""
-    chance, jobs = file.chance, {}
-    for _ in range(chance.randrange(4)):
-        start = chance.randrange(ticks)
-        end = chance.randrange(start + 1, ticks + 1)
-        arrival = now + start if start else max(now - chance.randrange(3), 0)
-        if now + end <= LAST_TICK:
-            work = chance.randrange(1, 2 + top * (end - start) // 2)
-            ticket = file.ticket() or 1
-            jobs[ticket] = Job(ticket, arrival, now + end, work)
-    return jobs
-
-
-def small_offer(file, ticks, top):
-    arrival, deadline = small_window(file, ticks)
-    ticket = file.chance.choice([file.ticket() or 1] * 20 + [*file.book.jobs])
-    file.add(offer(ticket, arrival, deadline, file.chance.randrange(1, 2 + top * max(deadline - arrival, 1) // 2)))
-
-
-def small_edge(file, ticks, top):
-    arrival, deadline = small_window(file, ticks)
-    if arrival < deadline:
-        file.add_edge(file.ticket() or 1, arrival, deadline)
-
-
-def stays_small(image, ticks, top):
-    """Whether the image is refused, or its windows end in so many ticks and its top is no greater than this."""
-    book = Book.of(0, 1)
-    try:
-        book.load(image)
-    except Refused:
-        return True
-    return book.top <= top and all(job.deadline <= book.now + ticks for job in book.jobs.values())
-
-
-def small_load(file, ticks, top, saved):
-    """An image: the one that was saved, of another small book, or a wrong one."""
-    chance, book = file.chance, file.book
-    now = chance.choice((0, book.now, chance.randrange(2 ** 47)))
-    other = Book(now, chance.randrange(1, top + 1), small_jobs(file, now, ticks, top))
-    number = chance.choice((0, 1, 1 + len(book.jobs), chance.randrange(IMAGE_RECORDS)))
-    image = chance.choice((other.save(), saved, chance.choice(wrong_images(book, number))))
-    if stays_small(image, ticks, top):
-        file.load(image)
-
-
-def small_refused(file):
-    """An offer with fields that they can't have."""
-    now, chance = file.book.now, file.chance
-    arrival = chance.choice((now, max(now - 1, 0)))
-    ticket = chance.choice((0, file.ticket()))
-    return offer(ticket, arrival, chance.choice((arrival, min(now + 257, LAST_TICK))), chance.choice((0, 1)))
-
-
-def small_spoilt(file):
-    """A record with bytes that may be forbidden."""
-    now = file.book.now
-    return file.spoilt(file.chance.choice((TICK, strike(3), offer(3, now, now, 1))))
-
-
-def small_call(file, ticks, top, saved):
-    """A call of a small book, which has at most five open jobs."""
-    which = file.chance.random()
-    if which < 0.55 and len(file.book.jobs) < 5:
-        file.chance.choice((small_offer, small_offer, small_edge))(file, ticks, top)
-    elif which < 0.84:
-        file.add(TICK)
-    elif which < 0.89:
-        file.add(file.strike())
-    elif which < 0.92:
-        file.add(small_spoilt(file))
-    elif which < 0.95:
-        file.add(small_refused(file))
-    else:
-        small_load(file, ticks, top, saved)
-
-
-def small_life(file):
-    """A short life of a small book."""
-    chance = file.chance
-    ticks = chance.randrange(2, 8)
-    top = chance.randrange(1, {2: 9, 3: 8, 4: 7, 5: 5, 6: 4, 7: 3}[ticks])
-    now = chance.choice((0, 0, chance.randrange(100), chance.randrange(LAST_TICK - 299),
-                         LAST_TICK - chance.randrange(8)))
-    jobs = small_jobs(file, now, ticks, top)
-    while schedule.first_overload(top, Book(now, top, jobs).demands()):
-        jobs.popitem()
-    file.begin(SmallBook, now, top, jobs.values())
-    saved = file.book.save()
-    for _ in range(chance.randrange(8, 15)):
-        small_call(file, ticks, top, saved)
 
 
 def odd_lists(file):
