@@ -57,8 +57,10 @@ class Lowering:
 
     def lowerable(self):
         """How many ticks can be lowered, by start and by end."""
-        ticks = range(len(self.found))
-        before = [0, *itertools.accumulate(any(tick in piece for piece in self.pieces) for tick in ticks)]
+        can_fall = [0] * len(self.found)
+        for piece in self.pieces:
+            can_fall[piece.start:piece.stop] = [1] * len(piece)
+        before = [0, *itertools.accumulate(can_fall)]
         return [[max(before[end] - before[start], 0) for end in self.ends] for start in self.starts]
 
     def pass_levels(self):
