@@ -53,7 +53,7 @@ def disagreements(file):
 
 def gaps(file):
     """The answers that no call gets."""
-    return (f'no call of questions answers {name}' for name in lives.missing(file.answers))
+    return (f'no call of questions answers {name}' for name in lives.missing(file))
 
 
 def check():

@@ -20,13 +20,13 @@ class File(Calls):
         self.run = Run(self.book)
         self.data = bytearray()
         self.lives = collections.Counter()
-        self.answers = collections.Counter()
+        self.kinds = collections.Counter()
 
     def add(self, *calls):
         for item in calls:
             self.data += item
             said = self.run.call(item).split()
-            self.answers[words(*said[:answer_len(said)])] += 1
+            self.kinds[kind_of(said)] += 1
 
     def load(self, *images):
         self.add(*map(image_item, images))
@@ -64,11 +64,11 @@ class File(Calls):
             self.add(offer(ticket, arrival, deadline, most))
 
 
-def answer_len(said):
-    """How many words of a line say what kind of answer it is."""
+def kind_of(said):
+    """The words of a line that say what kind of answer it is: of refusals 5 and 13 the value belongs to them."""
     if said[0] != 'R':
-        return 1
-    return 3 if said[1] in ('5', '13') else 2
+        return said[0]
+    return words(*said[:3 if said[1] in ('5', '13') else 2])
 
 
 def new_book(file):
@@ -248,22 +248,22 @@ def tries():
         yield bytes(file.data), file.run.output()
 
 
-def missing(answers):
-    """Which answers never come."""
+def missing(file):
+    """Which kinds of answers never come."""
     refusals = [f'R {number}' for number in (2, 3, 6, 7, 8, 9, 10, 11)]
     fields = [f'R 5 {field}' for field in range(1, 5)]
     records = [f'R 13 {number}' for number in range(IMAGE_RECORDS + 1)]
-    return [name for name in ['L', 'O', 'S', 'T', *refusals, *fields, *records] if not answers[name]]
+    return [name for name in ['L', 'O', 'S', 'T', *refusals, *fields, *records] if not file.kinds[name]]
 
 
 def summary(file):
-    """How many calls there are, and how many of each answer."""
+    """How many calls there are, and how many get each kind of answer."""
     counts = collections.Counter()
-    for name, count in file.answers.items():
+    for name, count in file.kinds.items():
         counts[words(*name.split()[:2])] += count
     small, others = file.lives['SmallBook'], file.lives['Book']
     each = ', '.join(f'{name} {count} times' for name, count in sorted(counts.items()))
-    return f'{file.answers.total()} calls in the lives of {small} small books and {others} others: {each}'
+    return f'{file.kinds.total()} calls in the lives of {small} small books and {others} others: {each}'
 
 
 def stored(file):

@@ -76,7 +76,7 @@ class Run:
 
     def __init__(self, book):
         self.book, self.lines = book, []
-        self.answers, self.told = None, NOTHING
+        self.answers, self.printed = None, NOTHING
 
     def turn(self, kind):
         """Goes on with a book of this kind."""
@@ -91,8 +91,8 @@ class Run:
             line = words('R', refused.number, *refused.values)
         if self.answers is None or self.book.save() != before:
             self.answers = asked(self.book)
-        self.lines += [line, *told(self.answers, self.told)]
-        self.told = self.answers
+        self.lines += [line, *told(self.answers, self.printed)]
+        self.printed = self.answers
         return line
 
     def output(self):

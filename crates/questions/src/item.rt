@@ -1,5 +1,5 @@
 // The items of a file: images and records.
-ghost use Rattle.std.specs.Prelude.{◌<◌, ◌≤◌, length};
+ghost use Rattle.std.specs.Prelude.{◌<◌, length};
 ghost use Rattle.std.specs.Iterator.{at_most};
 
 use layout::RECORD_LEN;
