@@ -33,21 +33,17 @@ def accepted(book, said):
 
 
 def line(book, offset, record):
-    """The line of a record, and whether the run goes on."""
+    """The line of a record."""
     try:
-        return accepted(book, codec.read(offset, record)), True
+        return accepted(book, codec.read(offset, record))
     except Refused as refused:
-        return words('R', offset, refused.number, *refused.values), refused.number != 1
+        return words('R', offset, refused.number, *refused.values)
 
 
 def transcript(data):
-    """All lines of a file."""
-    book, lines = Book.of(0, TOP), []
-    for number, record in enumerate(codec.records_in(data[:LIMIT])):
-        text, goes_on = line(book, RECORD_LEN * number, record)
-        lines.append(text + '\n')
-        if not goes_on:
-            break
+    """All lines of a file. No record follows a cut one."""
+    book, records = Book.of(0, TOP), codec.records_in(data[:LIMIT])
+    lines = [line(book, RECORD_LEN * number, record) + '\n' for number, record in enumerate(records)]
     return ''.join(lines).encode('ascii')
 
 

@@ -23,15 +23,17 @@ pub(super) struct Answers {
 }
 
 impl Answers {
-    // No answers: every book has other ones.
-    pub(super) const BLANK: Answers = Answers {
-        settings: [0; SETTINGS],
-        blocks: [NO_BLOCK; PLACES],
-        count: 0,
-        bills: [0; 5],
-        image: [0; IMAGE_LEN],
-        is_saved_again: false,
-    };
+    // Blank answers: every book has other ones.
+    pub(super) fn blank() -> Answers {
+        Answers {
+            settings: [0; SETTINGS],
+            blocks: [NO_BLOCK; PLACES],
+            count: 0,
+            bills: [0; 5],
+            image: [0; IMAGE_LEN],
+            is_saved_again: false,
+        }
+    }
 }
 
 // What asks.

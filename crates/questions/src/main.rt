@@ -40,7 +40,7 @@ fn refused<F: Into<Refusal>>(fault: F) -> anyhow::Error {
 fn work<W: Write>(input: &[u8], out: &mut W) -> anyhow::Result<()> {
     let mut questions = Questions::new(Models::new().map_err(refused)?);
     let mut book = Book::new();
-    let mut before = Answers::BLANK;
+    let mut before = Answers::blank();
     for item in Items::of(input) {
         writeln!(out, "{}", call(&mut book, item))?;
         let answers = questions.ask(&book).map_err(refused)?;
