@@ -1,21 +1,18 @@
-#!/usr/bin/env python3
 """A search of its own for settings in force, overload, serving and critical blocks of small books.
 
-    tests/schedule.py            check the stored cases: each answer is what this program finds
-    tests/schedule.py --write    write the stored cases anew
-
-It goes through all sharings, all lists and all pairs, as docs/RULES.md says them, and shares nothing with the program.
-The stored cases are definitions of the crate `schedule`, which proves that its own definitions answer the same.
+It goes through all sharings, all lists and all pairs, as docs/RULES.md says them. The stored cases are definitions of
+the crate `schedule`, which proves that its own definitions answer the same.
 """
+import dataclasses
 import functools
 import itertools
 import pathlib
 import random
-import sys
 from fractions import Fraction
 
-ROOT = pathlib.Path(__file__).resolve().parent.parent
-CASES = ROOT / 'crates/schedule/specs/Cases.antt'
+from rules import Block, Demand, Interval
+
+CASES = pathlib.Path('crates/schedule/specs/Cases.antt')
 
 HEADER = """\
 -- Small books, and what a search through all sharings, lists and pairs finds for each. Written by tests/schedule.py.
@@ -28,16 +25,28 @@ abbrev pub cases : List Case
 cases =
 """
 
-# A book is (ticks, top, demands), and a demand (start, end, units): the window [start, end) with its work left.
+
+@dataclasses.dataclass(frozen=True)
+class Plan:
+    """A small book, seen from now: the ticks ahead, the top, and the demands."""
+    ticks: int
+    top: int
+    demands: list
+
+
+def plan(ticks, top, *demands):
+    return Plan(ticks, top, [Demand(*demand) for demand in demands])
+
+
 WORKED = [
-    (3, 4, []),
-    (3, 4, [(0, 2, 3), (0, 3, 1)]),
-    (3, 4, [(2, 3, 1), (0, 3, 2)]),
-    (1, 4, [(0, 1, 2), (0, 1, 2)]),
-    (1, 3, [(0, 1, 2), (0, 1, 2)]),
-    (4, 3, [(0, 4, 11), (2, 4, 4)]),
-    (4, 2, [(0, 4, 4), (1, 2, 5)]),
-    (4, 2, [(3, 4, 2), (0, 1, 2), (1, 2, 2)]),
+    plan(3, 4),
+    plan(3, 4, (0, 2, 3), (0, 3, 1)),
+    plan(3, 4, (2, 3, 1), (0, 3, 2)),
+    plan(1, 4, (0, 1, 2), (0, 1, 2)),
+    plan(1, 3, (0, 1, 2), (0, 1, 2)),
+    plan(4, 3, (0, 4, 11), (2, 4, 4)),
+    plan(4, 2, (0, 4, 4), (1, 2, 5)),
+    plan(4, 2, (3, 4, 2), (0, 1, 2), (1, 2, 2)),
 ]
 
 
@@ -48,15 +57,15 @@ def by_chance(chance):
     for _ in range(chance.randrange(1, 5)):
         start = chance.randrange(ticks)
         end = chance.randrange(start + 1, ticks + 1)
-        demands.append((start, end, chance.randrange(1, 2 + top * (end - start) // 2)))
-    return ticks, top, demands
+        demands.append(Demand(start, end, chance.randrange(1, 2 + top * (end - start) // 2)))
+    return Plan(ticks, top, demands)
 
 
-def books():
+def plans():
     """The worked books and 56 by chance, the demands of each in order of deadline."""
     chance = random.Random(256)
-    for ticks, top, demands in WORKED + [by_chance(chance) for _ in range(56)]:
-        yield ticks, top, sorted(demands, key=lambda demand: demand[1])
+    for small in WORKED + [by_chance(chance) for _ in range(56)]:
+        yield Plan(small.ticks, small.top, sorted(small.demands, key=lambda demand: demand.end))
 
 
 @functools.lru_cache(None)
@@ -67,47 +76,64 @@ def rows(ticks, units):
     return [(first, *rest) for first in range(units + 1) for rest in rows(ticks - 1, units - first)]
 
 
+def given(load, start, row):
+    """What the ticks have once those from the start on have got this row too."""
+    end = start + len(row)
+    return load[:start] + tuple(map(int.__add__, load[start:end], row)) + load[end:]
+
+
 def loads(ticks, demands):
     """What each sharing gives the ticks: the exact lists."""
     found = {(0,) * ticks}
-    for start, end, units in demands:
-        found = {load[:start] + tuple(map(int.__add__, load[start:end], row)) + load[end:] for load in found for row in rows(end - start, units)}
+    for demand in demands:
+        ways = rows(demand.end - demand.start, demand.units)
+        found = {given(load, demand.start, row) for load in found for row in ways}
     return found
+
+
+def squares(load):
+    return sum(units * units for units in load)
 
 
 def in_force(exact):
     """The least sum of squares; among several, the greater at the first tick where they differ."""
-    least = min(sum(x * x for x in load) for load in exact)
-    return max(load for load in exact if sum(x * x for x in load) == least)
+    least = min(map(squares, exact))
+    return max(load for load in exact if squares(load) == least)
 
 
 def does(settings, exact):
     """Whether some sharing gives no tick more units than its setting."""
-    return any(all(x <= s for x, s in zip(load, settings)) for load in exact)
+    return any(all(units <= setting for units, setting in zip(load, settings)) for load in exact)
 
 
-def work(demands, a, b):
-    return sum(units for start, end, units in demands if a <= start and end <= b)
+def work_inside(demands, start, end):
+    return sum(demand.units for demand in demands if start <= demand.start and demand.end <= end)
 
 
 def first_overload(top, demands):
-    """The interval with the least start and, among those, the least end, and its work."""
-    for a in sorted({start for start, _, _ in demands}):
-        for b in sorted({end for _, end, _ in demands}):
-            if a < b and work(demands, a, b) > top * (b - a):
-                return [a, b, work(demands, a, b)]
-    return []
+    """The overloaded interval with the least start and, among those, the least end."""
+    for start in sorted({demand.start for demand in demands}):
+        for end in sorted({demand.end for demand in demands}):
+            inside = work_inside(demands, start, end)
+            if start < end and inside > top * (end - start):
+                return Interval(start, end, inside)
+    return None
 
 
-def serve(setting, demands):
-    """What each demand gets in this tick, in the order of deadlines, and what is left of it one tick later."""
-    served, left = [], []
-    for start, end, units in demands:
-        got = min(units, setting) if start == 0 else 0
-        setting -= got
-        served.append(got)
-        left.append((max(start - 1, 0), end - 1, units - got))
-    return served, left
+def served(setting, demands):
+    """What each demand gets in this tick, in the order of deadlines."""
+    found = []
+    for demand in demands:
+        units = min(demand.units, setting) if demand.start == 0 else 0
+        setting -= units
+        found.append(units)
+    return found
+
+
+def left(demands, got):
+    """What is left of each demand one tick later."""
+    later = [(max(demand.start - 1, 0), demand.end - 1) for demand in demands]
+    return [Demand(*window, demand.units - units) for window, demand, units in zip(later, demands, got)]
 
 
 MODELS = [lambda s: s, lambda s: 10 + s ** 3, lambda s: max(s, 2) ** 3, lambda s: max(s - 1, 0)]
@@ -115,39 +141,46 @@ MODELS = [lambda s: s, lambda s: 10 + s ** 3, lambda s: max(s, 2) ** 3, lambda s
 
 def draws(lists):
     """The least that one of the lists draws under each model."""
-    return [min(sum(model(s) for s in settings) for settings in lists) for model in MODELS] if lists else []
+    return [min(sum(map(model, settings)) for settings in lists) for model in MODELS] if lists else []
+
+
+def fastest(seen, free):
+    """The pair of compressed times with the most work over length; then the least first, then the greatest second."""
+    pairs = itertools.combinations(range(free + 1), 2)
+    return max(pairs, key=lambda pair: (Fraction(work_inside(seen, *pair), pair[1] - pair[0]), -pair[0], pair[1]))
 
 
 def blocks(ticks, demands):
-    """Round by round: every pair of compressed times, the greatest work over length as a fraction, then the least u, then the greatest v."""
+    """The critical blocks, round by round, in ticks from now."""
     free, found = set(range(ticks)), []
     while demands:
-        time = [sum(1 for t in free if t < tick) for tick in range(ticks + 1)]
-        seen = [(time[start], time[end], units) for start, end, units in demands]
-        pairs = itertools.combinations(range(len(free) + 1), 2)
-        u, v = max(pairs, key=lambda pair: (Fraction(work(seen, *pair), pair[1] - pair[0]), -pair[0], pair[1]))
-        taken = {t for t in free if u <= time[t] < v}
-        found.append((work(seen, u, v), v - u, min(taken), max(taken) + 1))
-        demands = [d for d, (start, end, _) in zip(demands, seen) if not (u <= start and end <= v)]
+        time = [sum(1 for tick in free if tick < until) for until in range(ticks + 1)]
+        seen = [Demand(time[demand.start], time[demand.end], demand.units) for demand in demands]
+        u, v = fastest(seen, len(free))
+        taken = {tick for tick in free if u <= time[tick] < v}
+        found.append(Block(work_inside(seen, u, v), v - u, min(taken), max(taken) + 1))
+        demands = [demand for demand, at in zip(demands, seen) if not (u <= at.start and at.end <= v)]
         free -= taken
     return found
 
 
-def answers(book):
-    ticks, top, demands = book
-    exact = loads(ticks, demands)
-    able = [settings for settings in itertools.product(range(top + 1), repeat=ticks) if does(settings, exact)]
+def answers(small):
+    """What the search finds for a small book."""
+    exact = loads(small.ticks, small.demands)
+    lists = itertools.product(range(small.top + 1), repeat=small.ticks)
+    able = [settings for settings in lists if does(settings, exact)]
     settings = in_force(exact)
-    served, left = serve(settings[0], demands)
+    got = served(settings[0], small.demands)
+    overload = first_overload(small.top, small.demands)
     return {
-        'overload': first_overload(top, demands),
+        'overload': dataclasses.astuple(overload) if overload else (),
         'able': len(able),
         'exact': sum(settings in exact for settings in able),
         'settings': settings,
-        'served': served,
-        'left': left,
+        'served': got,
+        'left': [dataclasses.astuple(demand) for demand in left(small.demands, got)],
         'draws': draws(able),
-        'blocks': blocks(ticks, demands),
+        'blocks': [dataclasses.astuple(block) for block in blocks(small.ticks, small.demands)],
     }
 
 
@@ -160,33 +193,22 @@ def shown(value):
     return str(value) if isinstance(value, int) else listed(value)
 
 
+def case(small):
+    """The lines of a small book and of what is found for it."""
+    demands = listed(f'job {demand.start} {demand.end} {demand.units}' for demand in small.demands)
+    found = '; '.join(f'{name} = {shown(value)}' for name, value in answers(small).items())
+    return [
+        '    record {',
+        f'      book = record {{ ticks = {small.ticks}; top = {small.top}; demands = {demands} }};',
+        f'      found = record {{ {found} }};',
+        '    } ∷',
+    ]
+
+
 def text():
-    lines = []
-    for book in books():
-        ticks, top, demands = book
-        asked = listed('job {} {} {}'.format(*demand) for demand in demands)
-        found = '; '.join(f'{name} = {shown(value)}' for name, value in answers(book).items())
-        lines += [
-            '    record {',
-            f'      book = record {{ ticks = {ticks}; top = {top}; demands = {asked} }};',
-            f'      found = record {{ {found} }};',
-            '    } ∷',
-        ]
-    return HEADER + '\n'.join(lines) + '\n    []\n'
+    """The file of all cases."""
+    return HEADER + ''.join(line + '\n' for small in plans() for line in case(small)) + '    []\n'
 
 
-def main(words):
-    if words == ['--write']:
-        CASES.write_text(text(), encoding='utf-8')
-        return 0
-    if words:
-        sys.exit(__doc__)
-    if not CASES.is_file() or CASES.read_text(encoding='utf-8') != text():
-        print(f'schedule.py: {CASES.relative_to(ROOT)} is not what the search finds')
-        return 1
-    print(f'schedule.py: {len(list(books()))} small books are stored as the search finds them')
-    return 0
-
-
-if __name__ == '__main__':
-    sys.exit(main(sys.argv[1:]))
+def stored():
+    return {CASES: text().encode()}

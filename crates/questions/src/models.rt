@@ -1,20 +1,14 @@
 // The power models that bill.
-use anyhow::anyhow;
 use book::Book;
 use power::{Cube, Floor, Measured, PowerFault, SETTING_VALUES};
-use refusal::Refusal;
-
-fn refused(fault: PowerFault) -> anyhow::Error {
-    anyhow!("a power model is refused: {}", Refusal::from(fault))
-}
 
 // A model with the draws 0, 1, 3, 6 and so on.
 fn measured() -> Result<Measured, PowerFault> {
     let mut draws = [0; SETTING_VALUES];
     let mut draw = 0u32;
-    for (place, setting) in draws.iter_mut().zip(0..256u32) {
+    for (held, setting) in draws.iter_mut().zip(0..256u32) {
         draw = draw.saturating_add(setting);
-        *place = draw;
+        *held = draw;
     }
     let mut model = Measured::new();
     model.load_draws(&draws)?;
@@ -32,11 +26,7 @@ pub(super) struct Models {
 }
 
 impl Models {
-    pub(super) fn new() -> anyhow::Result<Models> {
-        Models::try_new().map_err(refused)
-    }
-
-    fn try_new() -> Result<Models, PowerFault> {
+    pub(super) fn new() -> Result<Models, PowerFault> {
         let plain = Cube::new(0, 1)?;
         Ok(Models {
             fixed: Cube::new(10, 1)?,
