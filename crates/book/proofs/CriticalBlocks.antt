@@ -16,7 +16,7 @@ use Rattle.layout.specs.declared.job.Job.{Job}
 use Rattle.book.specs.declared.blocks.CriticalBlock.{CriticalBlock}
 use Rattle.book.specs.Demands.{demands}
 use Rattle.book.specs.Book.{View, IsOpenAt}
-use Rattle.book.specs.Blocks.{block_in_time, blocks_of, blocks_outcome}
+use Rattle.book.specs.Blocks.{block_in_time, book_blocks, blocks_outcome}
 use Rattle.book.specs.Lists.{list_with}
 use Rattle.book.specs.Outcomes.{accepted}
 
@@ -34,7 +34,7 @@ block_in_time-told now [] = refl
 block_in_time-told now (c ∷ cs) = ap (λ bs. block_in_time now (block_of c) ∷ bs) (block_in_time-told now cs)
 
 -- the blocks of the planner, counted from now, are those of the book
-pub blocks_are : (b : View) (ds : List Demand) (items : List RelativeBlock) → All (IsOpenAt b.now) b.jobs → ds ≡ demands b.now b.jobs → items ≡ critical_blocks ds → map (block_in_time b.now) items ≡ blocks_of b
+pub blocks_are : (b : View) (ds : List Demand) (items : List RelativeBlock) → All (IsOpenAt b.now) b.jobs → ds ≡ demands b.now b.jobs → items ≡ critical_blocks ds → map (block_in_time b.now) items ≡ book_blocks b
 blocks_are b ds items open_at of_jobs of_demands =
     ap (map (block_in_time b.now)) of_demands
     ∙ block_in_time-told b.now (blocks horizon (open_demands ds))
@@ -61,11 +61,11 @@ module _ (now : ℕ) (items : List RelativeBlock) (list : List CriticalBlock) (r
 
 -- a list with enough places is not refused
 module _ (b : View) (list : List CriticalBlock) (room : 64 ≤ length list) where
-  blocked_none : blocks_outcome b list ≡ accepted (length (blocks_of b)) b (list_with (blocks_of b) list)
+  blocked_none : blocks_outcome b list ≡ accepted (length (book_blocks b)) b (list_with (book_blocks b) list)
   blocked_none = let enough : ltb (length list) 64 ≡ false = grind (arith, nat_tests) in rw enough refl
 
   -- the planner's blocks are written
-  module _ (items : List RelativeBlock) (are : map (block_in_time b.now) items ≡ blocks_of b) where
+  module _ (items : List RelativeBlock) (are : map (block_in_time b.now) items ≡ book_blocks b) where
     pub written_answer : Ok (length items) ≡ (blocks_outcome b list).answer
     written_answer = rw (blocked_none, ← are, length-map items (block_in_time b.now)) refl
 

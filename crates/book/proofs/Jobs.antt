@@ -56,12 +56,12 @@ without_removes t (suc i) (j ∷ js) d lt has pairs =
     let apart = AllPairs-head (λ j k. j.ticket ≢ k.ticket) j js pairs i d (omega arith) in
     let rest = without_removes t i js d (omega arith) has (AllPairs-tail (λ j k. j.ticket ≢ k.ticket) j js pairs) in grind (arith, nat_tests)
 
--- where a job goes, by what a search for the place answers
+-- where a job goes, by what a search for the index answers
 pub position-unwrap_or : {X : Type 0} (p : X → Bool) (xs : List X) (n : ℕ) → n ≡ length xs → unwrap_or (position p xs) n ≡ position_or_len p xs
 position-unwrap_or p xs n e = cond_both (nat_lt (position_or_len p xs) (length xs)) (Some (position_or_len p xs)) None (λ o. unwrap_or o n ≡ position_or_len p xs)
     (λ _. refl) (λ past. grind (arith, nat_tests, prefix_len-le-length (λ x. not (p x)) xs))
 
--- a place that is found holds an open job with the ticket
+-- an index that is found holds an open job with the ticket
 pub found_open : (t i : ℕ) (js : List Job) → position (has_ticket t) js ≡ Some i → is_ticket_open t js ≡ true
 found_open t i js e = let at = position-Some (has_ticket t) js i no_job e in list_any_at (has_ticket t) js i no_job at.0 at.1
 

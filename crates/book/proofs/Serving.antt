@@ -1,4 +1,4 @@
--- Serving the ready jobs of a tick, one after the other.
+-- WhileServing the ready jobs of a tick, one after the other.
 use Rattle.std.proofs.Common.{◌≡◌, ℕ, suc, ◌+◌, ◌-◌, ◌<◌, ◌≤◌, min, true, false, nat_le, nat_lt, inl, inr, List, [], ◌∷◌, ◌++◌, ◌∙◌, length, map, take, drop, get_or, set, refl, sym, ap, subst, arith, append_assoc}
 use Rattle.std.specs.List.{All}
 use Rattle.std.specs.List.Sorted.{IsPermutation}
@@ -18,7 +18,7 @@ use Rattle.book.specs.Jobs.{is_before}
 use Rattle.book.specs.Demands.{demand}
 use Rattle.book.specs.Book.{IsOpenAt, IsInOrder}
 use Rattle.book.specs.Ready.{ready_job, ready_jobs}
-use Rattle.book.specs.Ticks.{shares, worked_job, entry_of, entries_of, has_work}
+use Rattle.book.specs.Ticks.{grants, worked_job, entry_of, entries_of, has_work}
 use Rattle.book.specs.Lists.{list_with}
 use Rattle.book.proofs.Jobs.{AllPairs-head, AllPairs-tail}
 use Rattle.book.proofs.Ready.{Alike, alike, first_taken, ready_after, alike_length, alike_none}
@@ -32,10 +32,10 @@ idle now u j later = grind (arith, nat_tests)
 
 -- what is left of jobs, and the entries, after u units
 abbrev pub jobs_then : ℕ → ℕ → List Job → List Job
-jobs_then now u js = map worked_job (shares now u js)
+jobs_then now u js = map worked_job (grants now u js)
 
 abbrev pub entries_then : ℕ → ℕ → List Job → List Entry
-entries_then now u js = entries_of (shares now u js)
+entries_then now u js = entries_of (grants now u js)
 
 worked_none : (j : Job) → worked_job (j, 0) ≡ j
 worked_none j = let e : j.work - 0 ≡ j.work = omega arith in λ i. record { ticket = j.ticket; arrival = j.arrival; deadline = j.deadline; work = e i }
@@ -59,13 +59,13 @@ idle_jobs : (now u : ℕ) (j : Job) (js : List Job) → nat_le j.arrival now ≡
 idle_jobs now u j js later =
     let none = idle now u j later in
     let all : u - 0 ≡ u = omega arith in
-    subst (λ g. (worked_job (j, g) ∷ map worked_job (shares now (u - g) js)) ≡ j ∷ jobs_then now u js) (sym none) (λ i. worked_none j i ∷ jobs_then now (all i) js)
+    subst (λ g. (worked_job (j, g) ∷ map worked_job (grants now (u - g) js)) ≡ j ∷ jobs_then now u js) (sym none) (λ i. worked_none j i ∷ jobs_then now (all i) js)
 
 idle_entries : (now u : ℕ) (j : Job) (js : List Job) → nat_le j.arrival now ≡ false → entries_then now u (j ∷ js) ≡ entries_then now u js
 idle_entries now u j js later =
     let none = idle now u j later in
     let all : u - 0 ≡ u = omega arith in
-    subst (λ g. entries_of ((j, g) ∷ shares now (u - g) js) ≡ entries_then now u js) (sym none) (λ i. entries_then now (all i) js)
+    subst (λ g. entries_of ((j, g) ∷ grants now (u - g) js) ≡ entries_then now u js) (sym none) (λ i. entries_then now (all i) js)
 
 pub skip : (now u : ℕ) (pre rest : List Job) → All (λ j. has_work j ≡ true) rest → IsInOrder rest → 0 < length (ready_jobs now (length pre) rest) → Begun now u pre rest
 skip now u pre [] working order some = absurd (omega arith)
@@ -119,7 +119,7 @@ pub record State : Type 0 where
 
 -- the jobs of `pre` are served or passed over, those of `rest` are not yet, and the queue holds the ready jobs of
 -- `rest`; what is done and what is still to come make up what the whole setting comes to
-pub record Serving (start : Start) (state : State) : Type 0 where
+pub record WhileServing (start : Start) (state : State) : Type 0 where
   pub pre : List Job
   pub rest : List Job
   pub done : List Entry
@@ -135,13 +135,13 @@ pub record Serving (start : Start) (state : State) : Type 0 where
 
 -- a job whose window has begun does its work, or what is left of the units if that is less
 served_jobs : (now u : ℕ) (j : Job) (js : List Job) → nat_le j.arrival now ≡ true → jobs_then now u (j ∷ js) ≡ worked_job (j, min j.work u) ∷ jobs_then now (u - min j.work u) js
-served_jobs now u j js begun = ap (λ g. worked_job (j, g) ∷ map worked_job (shares now (u - g) js)) (busy now u j begun)
+served_jobs now u j js begun = ap (λ g. worked_job (j, g) ∷ map worked_job (grants now (u - g) js)) (busy now u j begun)
 
 served_entries : (now u : ℕ) (j : Job) (js : List Job) → nat_le j.arrival now ≡ true → has_work j ≡ true → 0 < u
     → entries_then now u (j ∷ js) ≡ entry_of (j, min j.work u) ∷ entries_then now (u - min j.work u) js
 served_entries now u j js begun working some =
     let t : nat_lt 0 (min j.work u) ≡ true = grind (arith, nat_tests) in
-    ap (λ g. entries_of ((j, g) ∷ shares now (u - g) js)) (busy now u j begun) ∙ rw t refl
+    ap (λ g. entries_of ((j, g) ∷ grants now (u - g) js)) (busy now u j begun) ∙ rw t refl
 
 -- an entry more is written
 more_entries : (es list : List Entry) (e : Entry) → length es < length list → set (list_with es list) (length es) e ≡ list_with (es ++ e ∷ []) list
@@ -150,7 +150,7 @@ more_entries es list e lt =
     rw (long, drop-cons list (length es) e lt, set-append_seam es (get_or list (length es) e) (drop (suc (length es)) list) e, append_assoc es (e ∷ []) (drop (suc (length es)) list)) refl
 
 -- a take of the queue gives the next job to be served, behind those that get nothing
-module _ (start : Start) (state : State) (x : ReadyJob) (q r : Slots ReadyJob) (s : Serving start state)
+module _ (start : Start) (state : State) (x : ReadyJob) (q r : Slots ReadyJob) (s : WhileServing start state)
     (held : state.queue ≡ elements_of q) (some : 0 < state.left) (long : 64 ≤ length start.list)
     (taken : Removed is_ready_before x q r) where
   queued : Alike (ready_jobs start.now (length s.pre) s.rest) (elements_of q)
@@ -215,7 +215,7 @@ module _ (start : Start) (state : State) (x : ReadyJob) (q r : Slots ReadyJob) (
     queue = elements_of r;
   }
 
-  pub next_serving : Serving start next_state
+  pub next_serving : WhileServing start next_state
   next_serving =
       let b = next_begun in
       let now = start.now in
@@ -246,7 +246,7 @@ module _ (start : Start) (state : State) (x : ReadyJob) (q r : Slots ReadyJob) (
       }
 
 -- what serving leaves at its end
-pub record Served (start : Start) (state : State) : Type 0 where
+pub record AfterServing (start : Start) (state : State) : Type 0 where
   pub jobs_are : state.jobs ≡ jobs_then start.now start.units start.jobs
   pub list_is : state.list ≡ list_with (entries_then start.now start.units start.jobs) start.list
   pub count_is : state.count ≡ length (entries_then start.now start.units start.jobs)
@@ -257,8 +257,8 @@ none_left now [] = (refl, refl)
 none_left now (j ∷ js) =
     let rest = none_left now js in
     let none : given 0 (demand now j) ≡ 0 = grind (arith, nat_tests) in (
-      ap (λ g. worked_job (j, g) ∷ map worked_job (shares now (0 - g) js)) none ∙ (λ i. worked_none j i ∷ rest.0 i),
-      ap (λ g. entries_of ((j, g) ∷ shares now (0 - g) js)) none ∙ rest.1,
+      ap (λ g. worked_job (j, g) ∷ map worked_job (grants now (0 - g) js)) none ∙ (λ i. worked_none j i ∷ rest.0 i),
+      ap (λ g. entries_of ((j, g) ∷ grants now (0 - g) js)) none ∙ rest.1,
     )
 
 -- or no ready job is
@@ -272,8 +272,8 @@ none_ready now u k (j ∷ js) none = elim (cases_Bool (nat_le j.arrival now)) [
       (idle_jobs now u j js t ∙ ap (λ xs. j ∷ xs) rest.0, idle_entries now u j js t ∙ rest.1)
 ]
 
-module _ (start : Start) (state : State) (s : Serving start state) where
-  ended : (jobs_then start.now state.left s.rest ≡ s.rest) × (entries_then start.now state.left s.rest ≡ []) → Served start state
+module _ (start : Start) (state : State) (s : WhileServing start state) where
+  ended : (jobs_then start.now state.left s.rest ≡ s.rest) × (entries_then start.now state.left s.rest ≡ []) → AfterServing start state
   ended same =
       let written : s.done ≡ entries_then start.now start.units start.jobs =
       sym (append-nil s.done) ∙ (sym (ap (λ xs. s.done ++ xs) same.1) ∙ s.entries_end) in
@@ -283,11 +283,11 @@ module _ (start : Start) (state : State) (s : Serving start state) where
         count_is = sym s.counted ∙ ap length written;
       }
 
-  pub used_up : state.left ≡ 0 → Served start state
+  pub used_up : state.left ≡ 0 → AfterServing start state
   used_up none =
       ended (subst (λ u. (jobs_then start.now u s.rest ≡ s.rest) × (entries_then start.now u s.rest ≡ [])) (sym none) (none_left start.now s.rest))
 
-  pub all_served : (q : Slots ReadyJob) → state.queue ≡ elements_of q → q.count ≡ 0 → Served start state
+  pub all_served : (q : Slots ReadyJob) → state.queue ≡ elements_of q → q.count ≡ 0 → AfterServing start state
   all_served q held none =
       let empty : state.queue ≡ [] = held ∙ ap (λ n. take n q.slots) none in
       ended (none_ready start.now state.left (length s.pre) s.rest (alike_none (ready_jobs start.now (length s.pre) s.rest) state.queue s.queued empty))
@@ -298,7 +298,7 @@ first_state start queue = record { left = start.units; count = 0; jobs = start.j
 
 -- at the start none is served
 pub started : (start : Start) (queue : List ReadyJob) → length start.jobs ≤ 64 → IsInOrder start.jobs → All (IsOpenAt start.now) start.jobs
-    → IsPermutation (ready_jobs start.now 0 start.jobs) queue → Serving start (first_state start queue)
+    → IsPermutation (ready_jobs start.now 0 start.jobs) queue → WhileServing start (first_state start queue)
 started start queue few order open_at queued = record {
   pre = [];
   rest = start.jobs;

@@ -1,4 +1,4 @@
--- What a strike answers and leaves, by the place of the ticket.
+-- What a strike answers and leaves, by the index of the ticket.
 use Rattle.std.proofs.Common.{◌≡◌, ℕ, Some, None, Ok, Err, refl}
 use Rattle.std.specs.List.{position, remove}
 use Rattle.book.specs.declared.fault.BookFault.TheVariants.{NotOpen}

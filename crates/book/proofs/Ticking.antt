@@ -22,7 +22,7 @@ use Rattle.book.specs.Demands.{demand, demands}
 use Rattle.book.specs.Book.{View, IsOpenAt, IsLawful}
 use Rattle.layout.specs.Jobs.{last_tick}
 use Rattle.book.specs.Settings.{settings_of}
-use Rattle.book.specs.Ticks.{shares, worked_job, entry_of, entries_of, has_work, shares_of, book_after_tick}
+use Rattle.book.specs.Ticks.{grants, worked_job, entry_of, entries_of, has_work, grants_of, book_after_tick}
 use Rattle.book.proofs.DemandFacts.{sound-demands}
 use Rattle.book.proofs.Jobs.{AllPairs-head, AllPairs-tail}
 use Rattle.book.proofs.Keeping.{work-filter}
@@ -96,14 +96,14 @@ entry_units j zero ss = omega arith
 entry_units j (suc g) ss = let t : nat_lt 0 (suc g) ≡ true = grind (arith, nat_tests) in rw t (sum_by-cons (λ (e : Entry). e.units) (entry_of (j, suc g)) (entries_of ss))
 
 -- the entries give the units that the jobs get
-units_given : (now u : ℕ) (js : List Job) → sum_by (λ e. e.units) (entries_of (shares now u js)) ≡ sum (serve u (demands now js))
+units_given : (now u : ℕ) (js : List Job) → sum_by (λ e. e.units) (entries_of (grants now u js)) ≡ sum (serve u (demands now js))
 units_given now u [] = refl
 units_given now u (j ∷ js) =
     let g = given u (demand now j) in
-    entry_units j g (shares now (u - g) js) ∙ ap (λ n. g + n) (units_given now (u - g) js) ∙ sym (sum_by-cons (λ n. n) g (serve (u - g) (demands now js)))
+    entry_units j g (grants now (u - g) js) ∙ ap (λ n. g + n) (units_given now (u - g) js) ∙ sym (sum_by-cons (λ n. n) g (serve (u - g) (demands now js)))
 
 -- in a lawful book that is the setting
-pub gives_setting : (b : View) → IsLawful b → sum_by (λ e. e.units) (entries_of (shares_of b)) ≡ settings_of b 0
+pub gives_setting : (b : View) → IsLawful b → sum_by (λ e. e.units) (entries_of (grants_of b)) ≡ settings_of b 0
 gives_setting b h = units_given b.now (settings_of b 0) b.jobs ∙ (law b h).gives
 
 pub lawful_after : (b : View) → IsLawful b → b.now ≢ last_tick → IsLawful (book_after_tick b)
@@ -121,7 +121,7 @@ lawful_after b h more =
           h.well_formed.few,
           length-filter has_work js,
           count_by-le-length has_work js,
-          length-map (shares b.now u b.jobs) worked_job,
+          length-map (grants b.now u b.jobs) worked_job,
           length-zip b.jobs (serve u (demands b.now b.jobs)),
         );
         tickets_differ = AllPairs-filter (λ j k. j.ticket ≢ k.ticket) has_work js (pairs_kept (λ j k. j.ticket ≢ k.ticket) (λ j k g h r. r) b.now u b.jobs h.well_formed.tickets_differ);
@@ -137,7 +137,7 @@ lawful_after b h more =
           );
     }
 
--- closing the jobs that are done, place by place
+-- closing the jobs that are done, index by index
 module _ (places old : List Job) (count index : ℕ) (d : Job) (lt : index < length places) (lt_old : index < length old) (others : drop index places ≡ drop index old) where
   both : get_or places index d ∷ drop (suc index) places ≡ get_or old index d ∷ drop (suc index) old
   both = sym (drop-cons places index d lt) ∙ others ∙ drop-cons old index d lt_old

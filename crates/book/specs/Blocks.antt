@@ -16,11 +16,11 @@ abbrev pub block_in_time : ℕ → RelativeBlock → CriticalBlock
 block_in_time now b = record { speed = b.speed; start = now + b.from; end = now + b.to }
 
 -- the critical blocks of a book, in the order of the rounds
-abbrev pub blocks_of : View → List CriticalBlock
-blocks_of b = map (λ c. block_in_time b.now (block_of c)) (blocks horizon (demands b.now b.jobs))
+abbrev pub book_blocks : View → List CriticalBlock
+book_blocks b = map (λ c. block_in_time b.now (block_of c)) (blocks horizon (demands b.now b.jobs))
 
 -- blocks writes the critical blocks into the first elements of the list, and answers how many there are
 abbrev pub blocks_outcome : View → List CriticalBlock → Outcome ℕ BookFault (List CriticalBlock)
 blocks_outcome b list =
-    let found = blocks_of b in
+    let found = book_blocks b in
     outcome (short_fault 64 list) b list (accepted (length found) b (list_with found list))

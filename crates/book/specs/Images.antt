@@ -68,7 +68,7 @@ book_in list = record {
   jobs = map job_in (take_while is_job_record (later_records list));
 }
 
--- whether a job can be open at now (`OpenAt`), as a test
+-- whether a job can be open at now (`IsOpenAt`), as a test
 abbrev pub can_be_open : ℕ → Job → Bool
 can_be_open now j =
     nat_lt 0 j.ticket && (nat_lt 0 j.work

@@ -17,8 +17,8 @@ use Rattle.book.specs.Outcomes.{Outcome, accepted, outcome}
 use Rattle.book.specs.Settings.{settings_of}
 
 -- each job with what it gets of u units at now, in the order of serving
-abbrev pub shares : ℕ → ℕ → List Job → List (Job × ℕ)
-shares now u jobs = zip jobs (serve u (demands now jobs))
+abbrev pub grants : ℕ → ℕ → List Job → List (Job × ℕ)
+grants now u jobs = zip jobs (serve u (demands now jobs))
 
 -- a job after what it gets: so many units less are left
 abbrev pub worked_job : (Job × ℕ) → Job
@@ -36,12 +36,12 @@ abbrev pub has_work : Job → Bool
 has_work j = nat_lt 0 j.work
 
 -- the shares of the tick at now, which serves the first setting in force
-abbrev pub shares_of : View → List (Job × ℕ)
-shares_of b = shares b.now (settings_of b 0) b.jobs
+abbrev pub grants_of : View → List (Job × ℕ)
+grants_of b = grants b.now (settings_of b 0) b.jobs
 
 -- the book one tick later: the jobs are worked on, and those with no work left close
 abbrev pub book_after_tick : View → View
-book_after_tick b = record { now = b.now + 1; top = b.top; jobs = filter has_work (map worked_job (shares_of b)) }
+book_after_tick b = record { now = b.now + 1; top = b.top; jobs = filter has_work (map worked_job (grants_of b)) }
 
 -- why a tick is refused
 abbrev pub tick_fault : View → List Entry → Option BookFault
@@ -52,7 +52,7 @@ tick_fault b list =
 -- the list
 abbrev pub tick_outcome : View → List Entry → Outcome Served BookFault (List Entry)
 tick_outcome b list =
-    let es = entries_of (shares_of b) in
+    let es = entries_of (grants_of b) in
     let served : Served = record { setting = settings_of b 0; count = length es } in
     outcome (tick_fault b list) b list (accepted served (book_after_tick b) (list_with es list))
 

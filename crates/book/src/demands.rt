@@ -3,7 +3,7 @@ ghost use Rattle.std.specs.Prelude.{◌≡◌, ◌≤◌, length, All};
 ghost use Rattle.book.specs.Demands.{demand, demands};
 ghost use Rattle.book.specs.Book.{IsOpenAt, IsInOrder};
 
-use super::job::{end_from, start_from};
+use super::job::{window_from, window_to};
 use super::table::PLACES;
 use layout::Job;
 use planner::{Demand, Demands};
@@ -14,8 +14,8 @@ fn demand_of(job: &Job, now: u64) -> Demand
     ensures { result ≡ demand now job.now }
 {
     Demand {
-        from: start_from(job, now) as u16,
-        to: end_from(job, now) as u16,
+        from: window_from(job, now) as u16,
+        to: window_to(job, now) as u16,
         units: job.work,
     }
 }

@@ -10,7 +10,7 @@ use super::fault::BookField;
 use layout::{Job, LAST_TICK};
 
 /// How many ticks from now the book looks at, as a number of ticks.
-pub(super) const TICKS_AHEAD: u64 = planner::HORIZON as u64;
+pub(super) const HORIZON_TICKS: u64 = planner::HORIZON as u64;
 
 // Whether the first job is served before the other: it has the earlier deadline, or the same and the lesser ticket.
 pub(super) fn is_before(job: &Job, other: &Job) -> bool
@@ -20,14 +20,14 @@ pub(super) fn is_before(job: &Job, other: &Job) -> bool
 }
 
 // The first tick of its window, in ticks from now.
-pub(super) fn start_from(job: &Job, now: u64) -> u64
+pub(super) fn window_from(job: &Job, now: u64) -> u64
     ensures { result ≡ (demand now job.now).from }
 {
     job.arrival.saturating_sub(now)
 }
 
 // The tick after the last of its window, in ticks from now.
-pub(super) fn end_from(job: &Job, now: u64) -> u64
+pub(super) fn window_to(job: &Job, now: u64) -> u64
     ensures { result ≡ (demand now job.now).to }
 {
     job.deadline.saturating_sub(now)
@@ -44,7 +44,10 @@ pub(super) fn check_fields(job: &Job, now: u64) -> Result<(), BookField>
     if job.arrival < now {
         return Err(BookField::Arrival);
     }
-    if job.deadline <= job.arrival || job.deadline > now + TICKS_AHEAD || job.deadline > LAST_TICK {
+    if job.deadline <= job.arrival
+        || job.deadline > now + HORIZON_TICKS
+        || job.deadline > LAST_TICK
+    {
         return Err(BookField::Deadline);
     }
     if job.work == 0 {

@@ -10,7 +10,7 @@ ghost use Rattle.book.specs.Reading.{leading_jobs};
 use super::book::Book;
 use super::fault::BookFault;
 use super::image::{BLANK, IMAGE_LEN, RECORDS, clock_record, job_record};
-use super::job::TICKS_AHEAD;
+use super::job::HORIZON_TICKS;
 use super::overload::overload_fault;
 use super::table::Table;
 use layout::{Job, LAST_TICK, RECORD_LEN};
@@ -36,10 +36,10 @@ fn can_be_open(job: &Job, now: u64) -> bool
     job.ticket > 0
         && job.work > 0
         && now < job.deadline
-        && job.deadline <= now + TICKS_AHEAD
+        && job.deadline <= now + HORIZON_TICKS
         && job.deadline <= LAST_TICK
         && job.arrival < job.deadline
-        && job.deadline <= job.arrival + TICKS_AHEAD
+        && job.deadline <= job.arrival + HORIZON_TICKS
 }
 
 // The job that the record says, where it can stand after those of the jobs.

@@ -14,10 +14,10 @@ use layout::Job;
 use planner::{Demand, Demands, HORIZON};
 
 // Whether a window starts at the tick.
-fn starts_at(demands: &Demands, start: u16) -> bool
-    ensures { result ≡ starts start demands.now }
+fn starts_at(demands: &Demands, from: u16) -> bool
+    ensures { result ≡ starts from demands.now }
 {
-    demands.list.iter().any(|demand| demand.from == start)
+    demands.list.iter().any(|demand| demand.from == from)
 }
 
 // The overloaded interval with the least start and, among those, the least end.
@@ -26,20 +26,20 @@ fn first_overload(demands: &Demands, top: u8) -> Option<(u16, u16)>
     ensures { result ≡ first_overload top demands.now 0 horizon }
 {
     'search: {
-        for start in 0..HORIZON as u16 {
-            if !starts_at(demands, start) {
+        for from in 0..HORIZON as u16 {
+            if !starts_at(demands, from) {
                 continue;
             }
             // By deadline: what is added up lies inside the interval to the demand's end. Demands with the same end
             // may follow.
             let mut work = 0;
             for demand in demands.list {
-                if demand.from < start {
+                if demand.from < from {
                     continue;
                 }
                 work += u32::from(demand.units);
-                if work > u32::from(top) * u32::from(demand.to - start) {
-                    break 'search Some((start, demand.to));
+                if work > u32::from(top) * u32::from(demand.to - from) {
+                    break 'search Some((from, demand.to));
                 }
             }
         }
@@ -57,10 +57,10 @@ pub(super) fn overload_fault(jobs: &[Job], now: u64, top: u8) -> Option<BookFaul
 {
     let mut demanded = [Demand::default(); PLACES];
     let demands = demands_of(&mut demanded, jobs, now);
-    let (start, end) = first_overload(&demands, top)?;
+    let (from, to) = first_overload(&demands, top)?;
     Some(BookFault::Overload {
-        start: now + u64::from(start),
-        end: now + u64::from(end),
-        work: demands.work_inside(start, end),
+        start: now + u64::from(from),
+        end: now + u64::from(to),
+        work: demands.work_inside(from, to),
     })
 }

@@ -4,7 +4,7 @@ ghost use Rattle.std.specs.List.{filter, list_all, remove};
 ghost use Rattle.book.specs.Jobs.{is_before, has_ticket, is_ticket_open, jobs_with};
 ghost use Rattle.book.specs.Lists.{list_with};
 ghost use Rattle.book.specs.Book.{IsOpenAt, IsInOrder};
-ghost use Rattle.book.specs.Ticks.{shares, worked_job, has_work, entries_of};
+ghost use Rattle.book.specs.Ticks.{grants, worked_job, has_work, entries_of};
 
 use super::job::is_before;
 use super::tick::{Entry, serve};
@@ -125,9 +125,9 @@ impl Table {
         requires room { 64 ≤ length list.old }
         requires in_order { IsInOrder self.old }
         requires open { All (IsOpenAt now) self.old }
-        ensures jobs { self.new ≡ map worked_job (shares now setting self.old) }
-        ensures list { list.new ≡ list_with (entries_of (shares now setting self.old)) list.old }
-        ensures count { result ≡ length (entries_of (shares now setting self.old)) }
+        ensures jobs { self.new ≡ map worked_job (grants now setting self.old) }
+        ensures list { list.new ≡ list_with (entries_of (grants now setting self.old)) list.old }
+        ensures count { result ≡ length (entries_of (grants now setting self.old)) }
     {
         serve(&mut self.places[..self.count], now, setting, list)
     }

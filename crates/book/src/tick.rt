@@ -5,7 +5,7 @@ ghost use Rattle.queue.specs.Slots.{slots_of, elements_of};
 ghost use Rattle.book.specs.Book.{IsOpenAt, IsInOrder};
 ghost use Rattle.book.specs.Lists.{list_with};
 ghost use Rattle.book.specs.Ready.{ready_jobs};
-ghost use Rattle.book.specs.Ticks.{shares, worked_job, entries_of, tick_outcome, GivesSetting};
+ghost use Rattle.book.specs.Ticks.{grants, worked_job, entries_of, tick_outcome, GivesSetting};
 
 use super::book::Book;
 use super::fault::BookFault;
@@ -57,9 +57,9 @@ pub(super) fn serve(jobs: &mut [Job], now: u64, setting: u8, list: &mut [Entry])
     requires room { 64 ≤ length list.old }
     requires in_order { IsInOrder jobs.old }
     requires open { All (IsOpenAt now) jobs.old }
-    ensures jobs { jobs.new ≡ map worked_job (shares now setting jobs.old) }
-    ensures list { list.new ≡ list_with (entries_of (shares now setting jobs.old)) list.old }
-    ensures count { result ≡ length (entries_of (shares now setting jobs.old)) }
+    ensures jobs { jobs.new ≡ map worked_job (grants now setting jobs.old) }
+    ensures list { list.new ≡ list_with (entries_of (grants now setting jobs.old)) list.old }
+    ensures count { result ≡ length (entries_of (grants now setting jobs.old)) }
 {
     let mut slots = [ReadyJob::default(); PLACES];
     let mut ready = ready_jobs(&mut slots, jobs, now);

@@ -13,7 +13,7 @@ use Rattle.book.specs.declared.tick.Entry.{Entry}
 use Rattle.book.specs.Jobs.{has_ticket}
 use Rattle.book.specs.Demands.{demand}
 use Rattle.book.specs.Book.{IsOpenAt}
-use Rattle.book.specs.Ticks.{shares, worked_job, entry_of, entries_of, has_work}
+use Rattle.book.specs.Ticks.{grants, worked_job, entry_of, entries_of, has_work}
 use Rattle.book.proofs.Jobs.{AllPairs-head, AllPairs-tail}
 use Rattle.life.proofs.Reordering.{IsPermutation-filter}
 
@@ -78,25 +78,25 @@ first_after : (s : Job × ℕ) (js : List Job) → All (λ j. j.ticket ≢ s.0.t
 first_after s js others works = rw (eq-eqb s.0.ticket s.0.ticket refl, jobs_after_others (entry_of s) js others works)
 
 -- a share of nothing leaves the job
-share_none : (s : Job × ℕ) → s.1 ≡ 0 → worked_job s ≡ s.0
-share_none s none = let e : s.0.work - s.1 ≡ s.0.work = omega arith in λ i. record { ticket = s.0.ticket; arrival = s.0.arrival; deadline = s.0.deadline; work = e i }
+grant_none : (s : Job × ℕ) → s.1 ≡ 0 → worked_job s ≡ s.0
+grant_none s none = let e : s.0.work - s.1 ≡ s.0.work = omega arith in λ i. record { ticket = s.0.ticket; arrival = s.0.arrival; deadline = s.0.deadline; work = e i }
 
 first_idle : (s : Job × ℕ) (js : List Job) → s.1 ≡ 0 → has_work s.0 ≡ true → s.0 ∷ js ≡ cond (has_work (worked_job s)) (worked_job s ∷ js) js
 first_idle s js none works =
-    let same = share_none s none in
+    let same = grant_none s none in
     let still : has_work (worked_job s) ≡ true = ap has_work same ∙ works in
     rw still (ap (λ j. j ∷ js) (sym same))
 
 -- the entries of shares leave of their jobs what the shares leave
-pub shares_after : (ss : List (Job × ℕ)) → AllPairs (λ s r. s.0.ticket ≢ r.0.ticket) ss → All (λ s. has_work s.0 ≡ true) ss
+pub grants_after : (ss : List (Job × ℕ)) → AllPairs (λ s r. s.0.ticket ≢ r.0.ticket) ss → All (λ s. has_work s.0 ≡ true) ss
     → jobs_after_all (entries_of ss) (jobs_of ss) ≡ filter has_work (map worked_job ss)
-shares_after [] differ works = refl
-shares_after (s ∷ ss) differ works =
+grants_after [] differ works = refl
+grants_after (s ∷ ss) differ works =
     let others = AllPairs-head (λ s r. s.0.ticket ≢ r.0.ticket) s ss differ in
     let works_here = All-head (λ s. has_work s.0 ≡ true) s ss works in
     let works_behind = All-tail (λ s. has_work s.0 ≡ true) s ss works in
     let js = jobs_of ss in
-    let rest = shares_after ss (AllPairs-tail (λ s r. s.0.ticket ≢ r.0.ticket) s ss differ) works_behind in
+    let rest = grants_after ss (AllPairs-tail (λ s r. s.0.ticket ≢ r.0.ticket) s ss differ) works_behind in
     let whole : jobs_after_all (entries_of ss) (cond (has_work (worked_job s)) (worked_job s ∷ js) js) ≡ filter has_work (map worked_job (s ∷ ss)) = elim (cases_Bool (has_work (worked_job s))) [
       | inl u ↦ rw u (jobs_after_all_behind (entries_of ss) (worked_job s) js (entries_other s.0.ticket ss others) u ∙ ap (λ ks. worked_job s ∷ ks) rest)
       | inr u ↦ rw u rest
@@ -161,18 +161,18 @@ for_job_after now e f js differ d =
     for_job_in now js (jobs_after e js) f d (contains_after e d.job js (λ same. differ (sym same ∙ d.same_ticket)) (lt-ltb 0 d.job.work (omega (arith, d.some_units, d.enough_left))) d.among)
 
 -- a share gives its job no more units than its work left, and some only in its window
-pub record SoundShare (now : ℕ) (s : Job × ℕ) : Type 0 where
+pub record SoundGrant (now : ℕ) (s : Job × ℕ) : Type 0 where
   pub enough_left : s.1 ≤ s.0.work
   pub begun : 0 < s.1 → s.0.arrival ≤ now
   pub not_over : now < s.0.deadline
 
 -- the entries of such shares are for their jobs
-pub entries_for_jobs : (now : ℕ) (ss : List (Job × ℕ)) → All (SoundShare now) ss → All (ForJob now (jobs_of ss)) (entries_of ss)
+pub entries_for_jobs : (now : ℕ) (ss : List (Job × ℕ)) → All (SoundGrant now) ss → All (ForJob now (jobs_of ss)) (entries_of ss)
 entries_for_jobs now [] sound = All-nil (ForJob now [])
 entries_for_jobs now (s ∷ ss) sound =
-    let h = All-head (SoundShare now) s ss sound in
+    let h = All-head (SoundGrant now) s ss sound in
     let behind = All-weaker (ForJob now (jobs_of ss)) (ForJob now (s.0 ∷ jobs_of ss)) (λ e d. for_job_in now (jobs_of ss) (s.0 ∷ jobs_of ss) e d (contains_behind d.job s.0 (jobs_of ss) d.among))
-    (entries_of ss) (entries_for_jobs now ss (All-tail (SoundShare now) s ss sound)) in
+    (entries_of ss) (entries_for_jobs now ss (All-tail (SoundGrant now) s ss sound)) in
     elim (cases_Bool (nat_lt 0 s.1)) [
       | inl t ↦
           let some = ltb-true 0 s.1 t in
@@ -190,29 +190,29 @@ entries_for_jobs now (s ∷ ss) sound =
     ]
 
 -- the shares of a tick are those of the jobs
-pub jobs_shared : (now u : ℕ) (js : List Job) → jobs_of (shares now u js) ≡ js
-jobs_shared now u [] = refl
-jobs_shared now u (j ∷ js) = ap (λ ks. j ∷ ks) (jobs_shared now (u - edf_given u (demand now j)) js)
+pub jobs_granted : (now u : ℕ) (js : List Job) → jobs_of (grants now u js) ≡ js
+jobs_granted now u [] = refl
+jobs_granted now u (j ∷ js) = ap (λ ks. j ∷ ks) (jobs_granted now (u - edf_given u (demand now j)) js)
 
 -- what holds of all jobs, and of all pairs of them, holds of their shares
-pub all_shared : (P : Job → Type 0) (now u : ℕ) (js : List Job) → All P js → All (λ s. P s.0) (shares now u js)
-all_shared P now u [] all = All-nil (λ (s : Job × ℕ). P s.0)
-all_shared P now u (j ∷ js) all =
+pub all_granted : (P : Job → Type 0) (now u : ℕ) (js : List Job) → All P js → All (λ s. P s.0) (grants now u js)
+all_granted P now u [] all = All-nil (λ (s : Job × ℕ). P s.0)
+all_granted P now u (j ∷ js) all =
     let g = edf_given u (demand now j) in
-    All-cons (λ s. P s.0) (j, g) (shares now (u - g) js) (All-head P j js all) (all_shared P now (u - g) js (All-tail P j js all))
+    All-cons (λ s. P s.0) (j, g) (grants now (u - g) js) (All-head P j js all) (all_granted P now (u - g) js (All-tail P j js all))
 
-pub pairs_shared : (R : Job → Job → Type 0) (now u : ℕ) (js : List Job) → AllPairs R js → AllPairs (λ s r. R s.0 r.0) (shares now u js)
-pairs_shared R now u [] pairs = λ a b d lt below. absurd (omega arith)
-pairs_shared R now u (j ∷ js) pairs =
+pub pairs_granted : (R : Job → Job → Type 0) (now u : ℕ) (js : List Job) → AllPairs R js → AllPairs (λ s r. R s.0 r.0) (grants now u js)
+pairs_granted R now u [] pairs = λ a b d lt below. absurd (omega arith)
+pairs_granted R now u (j ∷ js) pairs =
     let g = edf_given u (demand now j) in
-    AllPairs-cons (λ s r. R s.0 r.0) (j, g) (shares now (u - g) js)
-    (all_shared (R j) now (u - g) js (AllPairs-head R j js pairs)) (pairs_shared R now (u - g) js (AllPairs-tail R j js pairs))
+    AllPairs-cons (λ s r. R s.0 r.0) (j, g) (grants now (u - g) js)
+    (all_granted (R j) now (u - g) js (AllPairs-head R j js pairs)) (pairs_granted R now (u - g) js (AllPairs-tail R j js pairs))
 
 -- and they are such shares
-pub shares_sound : (now u : ℕ) (js : List Job) → All (IsOpenAt now) js → All (SoundShare now) (shares now u js)
-shares_sound now u [] all = All-nil (SoundShare now)
-shares_sound now u (j ∷ js) all =
+pub grants_sound : (now u : ℕ) (js : List Job) → All (IsOpenAt now) js → All (SoundGrant now) (grants now u js)
+grants_sound now u [] all = All-nil (SoundGrant now)
+grants_sound now u (j ∷ js) all =
     let g = edf_given u (demand now j) in
     let h = All-head (IsOpenAt now) j js all in
-    let first : SoundShare now (j, g) = record { enough_left = grind (arith, nat_tests); begun = λ some. grind (arith, nat_tests); not_over = h.not_due } in
-    All-cons (SoundShare now) (j, g) (shares now (u - g) js) first (shares_sound now (u - g) js (All-tail (IsOpenAt now) j js all))
+    let first : SoundGrant now (j, g) = record { enough_left = grind (arith, nat_tests); begun = λ some. grind (arith, nat_tests); not_over = h.not_due } in
+    All-cons (SoundGrant now) (j, g) (grants now (u - g) js) first (grants_sound now (u - g) js (All-tail (IsOpenAt now) j js all))

@@ -10,12 +10,12 @@ use Rattle.layout.specs.declared.job.Job.{Job}
 use Rattle.book.specs.declared.tick.Entry.{Entry}
 use Rattle.book.specs.Book.{View, IsLawful, IsOpenAt}
 use Rattle.book.specs.Settings.{settings_of}
-use Rattle.book.specs.Ticks.{worked_job, entries_of, shares_of, has_work}
+use Rattle.book.specs.Ticks.{worked_job, entries_of, grants_of, has_work}
 use Rattle.book.proofs.Jobs.{AllPairs-head, AllPairs-tail}
 use Rattle.life.specs.Tally.{Row, Tally, is_row_open, job_of_row, open_jobs, row_has_ticket, last_row, rows_with_last, row_given, rows_after_entries}
 use Rattle.life.specs.Promises.{GoesToOpen}
 use Rattle.life.proofs.Rows.{Newest, Within}
-use Rattle.life.proofs.Entries.{job_after, jobs_after, jobs_after_all, jobs_after_others, jobs_after_all_permutation, shares_after, entries_differ, ForJob, for_job_permutation, for_job_after, entries_for_jobs, contains_cases, jobs_shared, all_shared, pairs_shared, shares_sound}
+use Rattle.life.proofs.Entries.{job_after, jobs_after, jobs_after_all, jobs_after_others, jobs_after_all_permutation, grants_after, entries_differ, ForJob, for_job_permutation, for_job_after, entries_for_jobs, contains_cases, jobs_granted, all_granted, pairs_granted, grants_sound}
 
 -- open jobs have work left
 open_works : (rows : List Row) → All (λ j. has_work j ≡ true) (open_jobs rows)
@@ -156,20 +156,20 @@ pub record Fed (t : Tally) (es : List Entry) (after : List Job) : Type 0 where
   pub same : IsPermutation (open_jobs (rows_after_entries es t.rows)) after
 
 pub fed : (t : Tally) (b : View) → IsLawful b → t.now ≡ b.now → IsPermutation (open_jobs t.rows) b.jobs → Newest t.rows → Within t.rows
-    → Fed t (entries_of (shares_of b)) (filter has_work (map worked_job (shares_of b)))
+    → Fed t (entries_of (grants_of b)) (filter has_work (map worked_job (grants_of b)))
 fed t b lawful now_same jobs_same newest within =
     let u = settings_of b 0 in
-    let ss = shares_of b in
+    let ss = grants_of b in
     let es = entries_of ss in
     let open_at = lawful.well_formed.jobs_open in
-    let shared = jobs_shared b.now u b.jobs in
-    let differ = pairs_shared (λ j k. j.ticket ≢ k.ticket) b.now u b.jobs lawful.well_formed.tickets_differ in
-    let works = all_shared (λ j. has_work j ≡ true) b.now u b.jobs (All-weaker (IsOpenAt b.now) (λ j. has_work j ≡ true) (λ j h. lt-ltb 0 j.work h.work_left) b.jobs open_at) in
-    let for_jobs_there : All (ForJob b.now b.jobs) es = rw shared at (entries_for_jobs b.now ss (shares_sound b.now u b.jobs open_at)) in
+    let granted = jobs_granted b.now u b.jobs in
+    let differ = pairs_granted (λ j k. j.ticket ≢ k.ticket) b.now u b.jobs lawful.well_formed.tickets_differ in
+    let works = all_granted (λ j. has_work j ≡ true) b.now u b.jobs (All-weaker (IsOpenAt b.now) (λ j. has_work j ≡ true) (λ j h. lt-ltb 0 j.work h.work_left) b.jobs open_at) in
+    let for_jobs_there : All (ForJob b.now b.jobs) es = rw granted at (entries_for_jobs b.now ss (grants_sound b.now u b.jobs open_at)) in
     let for_jobs : All (ForJob t.now (open_jobs t.rows)) es
     = rw now_same (All-weaker (ForJob b.now b.jobs) (ForJob b.now (open_jobs t.rows)) (for_job_permutation b.now b.jobs (open_jobs t.rows) (IsPermutation-sym (open_jobs t.rows) b.jobs jobs_same)) es for_jobs_there) in
     let end = rows_after t.now es t.rows (entries_differ ss differ) for_jobs newest within in
-    let all_after : jobs_after_all es b.jobs ≡ filter has_work (map worked_job ss) = ap (jobs_after_all es) (sym shared) ∙ shares_after ss differ works in
+    let all_after : jobs_after_all es b.jobs ≡ filter has_work (map worked_job ss) = ap (jobs_after_all es) (sym granted) ∙ grants_after ss differ works in
     record {
       to_open = All-weaker (ForJob t.now (open_jobs t.rows)) (GoesToOpen t) (λ e d. goes_to_open t e newest d) es for_jobs;
       newest = end.newest;

@@ -7,7 +7,7 @@ use Rattle.book.specs.Bills.{bill_of}
 use Rattle.book.specs.Images.{save_outcome}
 use Rattle.life.specs.Events.{Call, offer, strike, tick, settings, blocks, bill, save, Answer, done, served, number, refused, done_answer, number_answer, Event, plain_event, event_on, book_after}
 use Rattle.life.specs.Tally.{Tally, tally_accepting, tally_answered, tally_after}
-use Rattle.life.specs.Life.{Life, Leads, EndsIn, life_with}
+use Rattle.life.specs.Life.{Life, LeadTo, EndsIn, life_with}
 use Rattle.life.specs.Promises.{KeepsCall, KeepsFrom, Keeps}
 use Rattle.life.proofs.Agreeing.{Agrees, Kept}
 use Rattle.life.proofs.Standing.{stands}
@@ -34,7 +34,7 @@ kept t b (bill draws) agrees = record { answers = tt; agrees = asked t b (bill d
 kept t b (save list) agrees = record { answers = tt; agrees = asked t b (save list) (done_answer (save_outcome b list).answer) refl agrees }
 
 -- so all events do
-keeps_from : (t : Tally) (b : View) (es : List Event) (c : View) → Agrees t b → Leads b es c → KeepsFrom t b es
+keeps_from : (t : Tally) (b : View) (es : List Event) (c : View) → Agrees t b → LeadTo b es c → KeepsFrom t b es
 keeps_from t b [] c agrees leads = stands t b agrees
 keeps_from t b (e ∷ es) c agrees leads =
     let k : Kept t b e.call = kept t b e.call agrees in
@@ -49,7 +49,7 @@ pub law : (life : Life) (b : View) → EndsIn life b → Keeps life
 law life b ends = keeps_from _ _ life.events b (begun_agrees life.before life.beginning ends.accepted) ends.leads
 
 -- one event more
-leads_more : (b c : View) (es : List Event) (e : Event) → Leads b es c → e ≡ event_on c e.call → Leads b (es ++ e ∷ []) (book_after c e.call)
+leads_more : (b c : View) (es : List Event) (e : Event) → LeadTo b es c → e ≡ event_on c e.call → LeadTo b (es ++ e ∷ []) (book_after c e.call)
 leads_more b c [] e leads is = subst (λ x. (e ≡ event_on x e.call) × (book_after x e.call ≡ book_after c e.call)) (sym leads) (is, refl)
 leads_more b c (x ∷ xs) e leads is = (leads.0, leads_more (book_after b x.call) c xs e leads.1 is)
 

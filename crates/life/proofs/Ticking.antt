@@ -11,7 +11,7 @@ use Rattle.book.specs.Settings.{settings_of}
 use Rattle.book.specs.declared.tick.Served.{Served}
 use Rattle.book.specs.Lists.{list_with}
 use Rattle.book.specs.Outcomes.{Outcome, accepted, outcome}
-use Rattle.book.specs.Ticks.{entries_of, shares_of, book_after_tick, tick_fault}
+use Rattle.book.specs.Ticks.{entries_of, grants_of, book_after_tick, tick_fault}
 use Rattle.book.proofs.Ticking.{gives_setting, lawful_after}
 use Rattle.life.specs.Events.{tick, served_answer, entries_written}
 use Rattle.life.specs.Tally.{Tally, rows_after_entries, tally_answered}
@@ -27,7 +27,7 @@ not_last b list none last = grind (arith, nat_tests)
 module _ (t : Tally) (b : View) (list : List Entry) (agrees : Agrees t b) where
   -- the entries of the tick, to the tally's rows
   abbrev es : List Entry
-  es = entries_of (shares_of b)
+  es = entries_of (grants_of b)
 
   the_fed : Fed t es (book_after_tick b).jobs
   the_fed = fed t b agrees.lawful agrees.now agrees.same agrees.newest agrees.within

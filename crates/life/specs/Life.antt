@@ -29,14 +29,14 @@ pub record Life : Type 0 where
   pub events : List Event
 
 -- the events lead from one book to the other: each is what its call answers and writes on the book that it finds
-abbrev pub Leads : View → List Event → View → Type 0
-Leads b [] c = b ≡ c
-Leads b (e ∷ es) c = (e ≡ event_on b e.call) × Leads (book_after b e.call) es c
+abbrev pub LeadTo : View → List Event → View → Type 0
+LeadTo b [] c = b ≡ c
+LeadTo b (e ∷ es) c = (e ≡ event_on b e.call) × LeadTo (book_after b e.call) es c
 
 -- a life, begun by an accepted call, that ends in the book
 pub record EndsIn (life : Life) (b : View) : Type 0 where
   pub accepted : (beginning_outcome life.before life.beginning).answer ≡ Ok tt
-  pub leads : Leads (beginning_outcome life.before life.beginning).book life.events b
+  pub leads : LeadTo (beginning_outcome life.before life.beginning).book life.events b
 
 -- a life with one event more
 abbrev pub life_with : Life → Event → Life

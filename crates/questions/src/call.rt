@@ -5,7 +5,7 @@ use life::{Request, Response, handle};
 use record::{ReadFault, Reader};
 use refusal::Refusal;
 use std::fmt;
-use transcript::Tick;
+use transcript::ServedTick;
 
 // What a call answers. `{}` writes its line without the line feed.
 #[derive(Clone, Copy)]
@@ -13,7 +13,7 @@ pub(super) enum Answer {
     Loaded,
     Offered { ticket: u16 },
     Struck { ticket: u16 },
-    Ticked(Tick),
+    Ticked(ServedTick),
     Refused(Refusal),
 }
 
@@ -51,7 +51,7 @@ fn request(book: &mut Book, bytes: &[u8]) -> Result<Answer, BookFault> {
     Ok(match handle(book, &request, &mut list)? {
         Response::Offered { ticket } => Answer::Offered { ticket },
         Response::Struck { ticket } => Answer::Struck { ticket },
-        Response::Served(Served { setting, count }) => Answer::Ticked(Tick {
+        Response::Served(Served { setting, count }) => Answer::Ticked(ServedTick {
             now,
             setting,
             list,

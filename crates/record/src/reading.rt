@@ -11,7 +11,7 @@ use layout::{Job, Kind, LABEL, RECORD_LEN, ReadFault};
 use std::marker::Model;
 
 // What the bytes of an allowed record say.
-fn content_of(kind: Kind, bytes: &[u8; RECORD_LEN]) -> Record<'_>
+fn record_in(kind: Kind, bytes: &[u8; RECORD_LEN]) -> Record<'_>
     ensures { content_of result ≡ content_in kind bytes.now }
 {
     let job = Job::of_record(bytes);
@@ -37,7 +37,7 @@ fn parse(bytes: &[u8; RECORD_LEN], offset: usize) -> Result<Record<'_>, ReadFaul
             offset: offset + index,
         });
     }
-    Ok(content_of(kind, bytes))
+    Ok(record_in(kind, bytes))
 }
 
 /// Reads the records of an input one after another.

@@ -38,11 +38,11 @@ fn bare_job(ticket: u16) -> Job
 }
 
 // The bytes of the record, where its fields fit them.
-fn encode(entry: &Record) -> Result<[u8; RECORD_LEN], WriteFault>
-    ensures said { result ≡ encode_answer (write_check (content_of entry.now)) (encoding_of (content_of entry.now)) }
-    ensures sized { OnOk result (IsSizedContent (content_of entry.now)) }
+fn encode(said: &Record) -> Result<[u8; RECORD_LEN], WriteFault>
+    ensures said { result ≡ encode_answer (write_check (content_of said.now)) (encoding_of (content_of said.now)) }
+    ensures sized { OnOk result (IsSizedContent (content_of said.now)) }
 {
-    let (kind, job, label) = match *entry {
+    let (kind, job, label) = match *said {
         Record::Offer(offer) => {
             check_offer(&offer)?;
             (Kind::Offer, offer.job, offer.label.first_chunk().unwrap())
@@ -71,12 +71,12 @@ fn encode(entry: &Record) -> Result<[u8; RECORD_LEN], WriteFault>
 /// - `WriteFault::Field(WrittenField::Deadline)`: when its deadline is
 /// - `WriteFault::Field(WrittenField::Label)`: when its label is not six bytes from 20 to 7E, hexadecimal
 /// - `WriteFault::Short`: when the list has fewer than 24 bytes
-pub fn write(entry: &Record, out: &mut [u8]) -> Result<(), WriteFault>
-    ensures said { result ≡ write_answer (content_of entry.now) out.old }
-    ensures written { out.new ≡ list_after (content_of entry.now) out.old }
-    ensures back { is_ok result ≡ true → ReadsAs (take 24 out.new) (trimmed_content (content_of entry.now)) }
+pub fn write(said: &Record, out: &mut [u8]) -> Result<(), WriteFault>
+    ensures said { result ≡ write_answer (content_of said.now) out.old }
+    ensures written { out.new ≡ list_after (content_of said.now) out.old }
+    ensures back { is_ok result ≡ true → ReadsAs (take 24 out.new) (trimmed_content (content_of said.now)) }
 {
-    let bytes = encode(entry)?;
+    let bytes = encode(said)?;
     if out.len() < RECORD_LEN {
         return Err(WriteFault::Short { needed: RECORD_LEN });
     }

@@ -15,7 +15,7 @@ use Rattle.transcript.specs.Run.{Run, next_line, next_run}
 use Rattle.transcript.specs.Text.{text_at, record_count}
 use Rattle.transcript.proofs.Faults.{goes_on, said}
 
--- what remains of an input at a place: nothing, less than a record, or a record
+-- what remains of an input at an offset: nothing, less than a record, or a record
 data Remains (s : List ℕ) (p : ℕ) : Type 0 where
   none : length s ≤ p → Remains s p
   cut : p < length s → length s < p + 24 → Remains s p

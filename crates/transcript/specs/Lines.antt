@@ -10,7 +10,7 @@ use Rattle.book.specs.declared.fault.BookFault.TheVariants.{Read}
 use Rattle.book.specs.declared.tick.Entry.{Entry}
 use Rattle.book.specs.Book.{View, empty_book}
 use Rattle.book.specs.Outcomes.{Outcome, accepted}
-use Rattle.book.specs.Ticks.{entries_of, shares_of}
+use Rattle.book.specs.Ticks.{entries_of, grants_of}
 use Rattle.life.specs.declared.Response.{Response}
 use Rattle.life.specs.declared.Response.TheVariants.{Offered as WasOffered, Struck as WasStruck, Served}
 use Rattle.life.specs.Requests.{request_of, request_outcome}
@@ -18,7 +18,7 @@ use Rattle.transcript.specs.declared.fault.BenchFault.{BenchFault}
 use Rattle.transcript.specs.declared.fault.BenchFault.TheVariants.{Book}
 use Rattle.transcript.specs.declared.line.Line.{Line}
 use Rattle.transcript.specs.declared.line.Line.TheVariants.{Offered, Struck, Ticked, Refused}
-use Rattle.transcript.specs.declared.line.Tick.{Tick}
+use Rattle.transcript.specs.declared.line.ServedTick.{ServedTick}
 use Rattle.transcript.specs.Refusals.{ends_run}
 
 -- a line as plain values: a job that the book took, one that it closed, a tick that it served, or a refusal
@@ -29,7 +29,7 @@ pub data PlainLine : Type 0 where
   refused : (offset : ℕ) (fault : BenchFault) → PlainLine
 
 -- what a tick of the code says
-abbrev pub plain_tick : Tick → PlainLine
+abbrev pub plain_tick : ServedTick → PlainLine
 plain_tick t = ticked t.now t.setting (take t.count t.list)
 
 -- what a line of the code says
@@ -47,27 +47,27 @@ no_entries = replicate 64 (record { ticket = 0; units = 0 })
 abbrev pub line_for : View → Content → Response → PlainLine
 line_for b c (WasOffered t) = offered t (shown_label (label_of c) (codes "house"))
 line_for b c (WasStruck t) = struck t
-line_for b c (Served s) = ticked b.now s.setting (entries_of (shares_of b))
+line_for b c (Served s) = ticked b.now s.setting (entries_of (grants_of b))
 
 -- what the bench makes of a record: its line or the fault (none at the end of the input), and the book afterwards
-abbrev pub Step : Type 0
-Step = Outcome (Option PlainLine) BenchFault (Unit {0})
+abbrev pub RecordOutcome : Type 0
+RecordOutcome = Outcome (Option PlainLine) BenchFault (Unit {0})
 
 -- a record worked with a book, as its request is handled
-abbrev pub content_outcome : View → Content → Step
+abbrev pub content_outcome : View → Content → RecordOutcome
 content_outcome b c =
     let o = request_outcome b (request_of c) no_entries in
     let answer = result_map_both (λ response. Some (line_for b c response)) Book o.answer in
     record { answer = answer; book = o.book; list = tt }
 
 -- a record that was read, or none at the end of the input, with a book
-abbrev pub read_outcome : View → Result (Option Content) ReadFault → Step
+abbrev pub read_outcome : View → Result (Option Content) ReadFault → RecordOutcome
 read_outcome b (Ok None) = accepted None b tt
 read_outcome b (Ok (Some c)) = content_outcome b c
 read_outcome b (Err e) = record { answer = Err (Book (Read e)); book = b; list = tt }
 
 -- what the bench makes of the record at an offset of the input, with a book
-abbrev pub outcome_at : View → List ℕ → ℕ → Step
+abbrev pub outcome_at : View → List ℕ → ℕ → RecordOutcome
 outcome_at b input offset = read_outcome b (read_answer input offset)
 
 -- a fault is a line too, with the offset of its record

@@ -2,7 +2,7 @@
 use Rattle.std.specs.Prelude.{◌≡◌, ℕ, ◌+◌, ◌-◌, ◌≤◌, Bool, true, false, if◌then◌else◌, List, length, None, Option}
 use Rattle.layout.specs.Reading.{offset_after}
 use Rattle.book.specs.Book.{View, empty_book}
-use Rattle.transcript.specs.Lines.{PlainLine, Step, outcome_at, line_at, is_over_after}
+use Rattle.transcript.specs.Lines.{PlainLine, RecordOutcome, outcome_at, line_at, is_over_after}
 
 -- its input, the offset of the next record, the book, and whether a fault has ended it
 pub record Run : Type 0 where
@@ -15,7 +15,7 @@ abbrev pub start_run : List ℕ → Run
 start_run s = record { input = s; offset = 0; book = empty_book 0 4; over = false }
 
 -- what the bench makes of the next record
-abbrev pub run_outcome : Run → Step
+abbrev pub run_outcome : Run → RecordOutcome
 run_outcome r = outcome_at r.book r.input r.offset
 
 -- the run with that record passed and worked

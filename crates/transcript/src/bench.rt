@@ -5,7 +5,7 @@ ghost use Rattle.std.specs.Iterator.{at_most};
 ghost use Rattle.transcript.specs.Run.{start_run, run_outcome, run_after_record, lines_left, GivesNext};
 
 use super::fault::BenchFault;
-use super::line::{Line, Tick};
+use super::line::{Line, ServedTick};
 use book::{Book, Entry, PLACES, Served};
 use life::{Request, Response, handle};
 use record::{Reader, shown};
@@ -79,7 +79,7 @@ impl<'a> Bench<'a> {
                 label: text(shown(record.label(), DEFAULT_LABEL)),
             },
             Response::Struck { ticket } => Line::Struck { ticket },
-            Response::Served(Served { setting, count }) => Line::Ticked(Tick {
+            Response::Served(Served { setting, count }) => Line::Ticked(ServedTick {
                 now,
                 setting,
                 list,

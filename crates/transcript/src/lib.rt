@@ -8,5 +8,5 @@ mod text;
 
 pub use bench::Bench;
 pub use fault::BenchFault;
-pub use line::{Line, Tick};
+pub use line::{Line, ServedTick};
 pub use text::Transcript;

@@ -10,7 +10,7 @@ use std::fmt;
 
 /// What a tick served.
 #[derive(Clone, Copy)]
-pub struct Tick {
+pub struct ServedTick {
     /// The tick.
     pub now: u64,
     /// Its setting, in units of work.
@@ -21,7 +21,7 @@ pub struct Tick {
     pub count: usize,
 }
 
-impl fmt::Display for Tick {
+impl fmt::Display for ServedTick {
     ghost output = { λ t. Some (tick_text t.now t.setting (take t.count t.list)) };
 
     fn fmt<W: fmt::Write>(&self, f: &mut fmt::Formatter<W>) -> fmt::Result {
@@ -43,7 +43,7 @@ pub enum Line<'a> {
     /// An accepted strike.
     Struck { ticket: u16 },
     /// A tick.
-    Ticked(Tick),
+    Ticked(ServedTick),
     /// A record that is refused: its offset in the input, in bytes, and why.
     Refused { offset: usize, fault: BenchFault },
 }

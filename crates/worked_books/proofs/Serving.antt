@@ -5,15 +5,15 @@ use Rattle.book.specs.declared.tick.Entry.{Entry}
 use Rattle.book.specs.Book.{View}
 use Rattle.layout.specs.Jobs.{last_tick}
 use Rattle.book.specs.Settings.{settings_of}
-use Rattle.book.specs.Ticks.{shares, shares_of, entries_of}
+use Rattle.book.specs.Ticks.{grants, grants_of, entries_of}
 use Rattle.worked_books.specs.Words.{TickServes}
 
 pub serves : (b : View) (setting : ℕ) (es : List Entry) → (b.now == last_tick) ≡ false → settings_of b 0 ≡ setting
-    → entries_of (shares b.now setting b.jobs) ≡ es → TickServes b setting es
+    → entries_of (grants b.now setting b.jobs) ≡ es → TickServes b setting es
 serves b setting es more first at_setting = record {
-  answer = λ list enough. rw (enough, more) (λ i. Ok (record { setting = first i; count = length (shared i) }));
-  written = λ list enough. rw (enough, more, shared) (take-append_seam es (drop (length es) list));
+  answer = λ list enough. rw (enough, more) (λ i. Ok (record { setting = first i; count = length (granted i) }));
+  written = λ list enough. rw (enough, more, granted) (take-append_seam es (drop (length es) list));
 }
   where
-    shared : entries_of (shares_of b) ≡ es
-    shared = ap (λ u. entries_of (shares b.now u b.jobs)) first ∙ at_setting
+    granted : entries_of (grants_of b) ≡ es
+    granted = ap (λ u. entries_of (grants b.now u b.jobs)) first ∙ at_setting

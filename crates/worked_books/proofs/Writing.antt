@@ -11,7 +11,7 @@ use Rattle.schedule.proofs.Theory.{theory}
 use Rattle.book.specs.declared.blocks.CriticalBlock.{CriticalBlock}
 use Rattle.book.specs.Book.{View}
 use Rattle.book.specs.Settings.{settings_of, list_with_settings}
-use Rattle.book.specs.Blocks.{blocks_of}
+use Rattle.book.specs.Blocks.{book_blocks}
 use Rattle.worked_books.specs.Words.{Sets, HasBlocks}
 
 -- the settings in force stand in the first elements of a list that they are written into
@@ -33,7 +33,7 @@ pub at_all_ticks : (s : ℕ → ℕ) (c : ℕ) → Same horizon s (λ _. c) → 
 at_all_ticks s c same t lt = omega (arith, same t lt, get_or-replicate 256 t c 0 (omega (arith, theory.ticks)))
 
 -- and blocks writes the critical blocks
-pub has_blocks : (b : View) (cs : List CriticalBlock) → blocks_of b ≡ cs → HasBlocks b cs
+pub has_blocks : (b : View) (cs : List CriticalBlock) → book_blocks b ≡ cs → HasBlocks b cs
 has_blocks b cs is = record {
   answer = λ list enough. rw (enough, is) refl;
   written = λ list enough. rw (enough, is) (take-append_seam cs (drop (length cs) list));

@@ -92,7 +92,7 @@ jobs_of_none r rs e = ap (map job_in) (take_while-cons is_job_record r rs ∙ co
 pub jobs_of_few : (rs : List (List ℕ)) → length (jobs_of rs) ≤ length rs
 jobs_of_few rs = omega (arith, length-map (take_while is_job_record rs) job_in, length-take (prefix_len is_job_record rs) rs)
 
--- the first place that passes a test, where the first element does
+-- the first index that passes a test, where the first element does
 position_here : {X : Type 0} (p : X → Bool) (x : X) (xs : List X) → p x ≡ true → position p (x ∷ xs) ≡ Some 0
 position_here p x xs e = grind (arith, nat_tests)
 

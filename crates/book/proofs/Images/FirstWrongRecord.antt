@@ -83,7 +83,7 @@ filled r = not (bytes_eq r blank_record)
 blank_there : (r : List ℕ) → filled r ≡ false → r ≡ blank_record
 blank_there r e = (bytes_eq-Decides r blank_record).0 (not-false (bytes_eq r blank_record) e)
 
--- the first place that is not blank, counted from k on
+-- the first index that is not blank, counted from k on
 index_of : (k : ℕ) (o : Option ℕ) (x : ℕ) → option_map (λ i. k + i) o ≡ Some x → (i : ℕ) × (o ≡ Some i) × (k + i ≡ x)
 index_of k None x e = absurd (cc)
 index_of k (Some i) x e = (i, refl, cc)
@@ -231,7 +231,7 @@ begins now before k (suc i) (r ∷ rs) s e = elim (cases_Bool (is_next_job now b
       showing_blank now before (take (suc i) (r ∷ rs)) (suc i) s (subst (λ n. take n (r ∷ rs) ≡ replicate n blank_record) at (blank_before found.0 (r ∷ rs) found.1))
 ]
 
--- none passes where no place is found
+-- none passes where no index is found
 not_found : {X : Type 0} (p : X → Bool) (xs : List X) → position p xs ≡ None → list_any p xs ≡ false
 not_found p [] none = refl
 not_found p (x ∷ xs) none = let rest = not_found p xs in grind (arith, nat_tests)

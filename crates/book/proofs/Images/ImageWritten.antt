@@ -1,4 +1,4 @@
--- The records of a book by their places, and a list into which they are written one after another.
+-- The records of a book by their indices, and a list into which they are written one after another.
 use Rattle.std.proofs.Common.{◌≡◌, ℕ, zero, suc, ◌+◌, ◌-◌, ◌*◌, ◌<◌, ◌≤◌, List, [], ◌∷◌, ◌++◌, ◌∙◌, map, length, take, drop, get_or, replicate, sym, refl, ap, subst, below_more, arith}
 use Rattle.std.proofs.lemmas.List.{append-nil, append_assoc, take_more, take_all, take_at, drop_at, drop-drop, length-take-le}
 use Rattle.std.proofs.lemmas.List.Concat.{flat_map-append}
@@ -11,7 +11,7 @@ use Rattle.book.specs.Loads.{IsSizedAt, LoadsBack}
 use Rattle.book.proofs.Images.RecordLists.{joined, AllWhole, length-joined}
 use Rattle.book.proofs.Images.AcceptedImages.{records_whole, length-image_records, loads_back}
 
--- the records of the places: those of the jobs, then blank ones
+-- the records of the indices: those of the jobs, then blank ones
 pub record_at : (js : List Job) (n i : ℕ) → get_or (map job_record js) i blank_record ≡ get_or (map job_record js ++ replicate n blank_record) i blank_record
 record_at [] zero i = refl
 record_at [] (suc n) zero = refl
@@ -47,7 +47,7 @@ begun_more n at k b list r few lt index size is =
     ∙ sym (append_assoc front r (drop (24 * (n + 1)) list))
     ∙ ap (λ bs. bs ++ drop (24 * (n + 1)) list) (ap (λ x. front ++ x) is ∙ sym (joined_more n rs blank_record inside))
 
--- that of a place
+-- that of a index
 pub begun_place : (i at k : ℕ) (b : View) (list r : List ℕ) → length b.jobs ≤ 64 → i < 64 → at ≡ 24 * (1 + i) → k ≡ 24 → r ≡ get_or (map job_record b.jobs) i blank_record
     → put_mid at k (begun (1 + i) b list) r ≡ begun (1 + (i + 1)) b list
 begun_place i at k b list r few lt index size is =
@@ -61,7 +61,7 @@ pub begun_all : (n : ℕ) (b : View) (list : List ℕ) → length b.jobs ≤ 64 
 begun_all n b list few all =
     ap (λ m. begun m b list) all ∙ ap (λ rs. joined rs ++ drop 1560 list) (take_all 65 (image_records b) (omega (arith, length-image_records b few)))
 
--- one place more holds a job of the code's sizes, if it holds one
+-- one index more holds a job of the code's sizes, if it holds one
 pub sized_more : (js : List Job) (i : ℕ) → ((k : ℕ) → k < i → IsSizedAt k js) → IsSizedAt i js → (k : ℕ) → k < i + 1 → IsSizedAt k js
 sized_more js i below here = below_more (λ k. IsSizedAt k js) i below here
 

@@ -25,16 +25,16 @@ length-joined (r ∷ rs) whole =
     let long : length r ≡ 24 = All-head (λ r. length r ≡ 24) r rs whole in
     omega (arith, length-append r (joined rs), length-joined rs (All-tail (λ r. length r ≡ 24) r rs whole))
 
--- the place of the next record
-next_place : (a : ℕ) (list : List ℕ) → drop (24 * (a + 1)) list ≡ drop 24 (drop (24 * a) list)
-next_place a list = let e : 24 * (a + 1) ≡ 24 * a + 24 = omega arith in ap (λ n. drop n list) e ∙ sym (drop-drop 24 (24 * a) list)
+-- the offset of the next record
+next_offset : (a : ℕ) (list : List ℕ) → drop (24 * (a + 1)) list ≡ drop 24 (drop (24 * a) list)
+next_offset a list = let e : 24 * (a + 1) ≡ 24 * a + 24 = omega arith in ap (λ n. drop n list) e ∙ sym (drop-drop 24 (24 * a) list)
 
 -- the bytes of the records of a list are its bytes there
 joined-records : (a n : ℕ) (list : List ℕ) → joined (records a n list) ≡ take (24 * n) (drop (24 * a) list)
 joined-records a zero list = refl
 joined-records a (suc n) list =
     let e : 24 * suc n ≡ 24 + 24 * n = omega arith in
-    ap (λ bs. take 24 (drop (24 * a) list) ++ bs) (joined-records (a + 1) n list ∙ ap (take (24 * n)) (next_place a list))
+    ap (λ bs. take 24 (drop (24 * a) list) ++ bs) (joined-records (a + 1) n list ∙ ap (take (24 * n)) (next_offset a list))
     ∙ (sym (take-add 24 (24 * n) (drop (24 * a) list)) ∙ ap (λ m. take m (drop (24 * a) list)) (sym e))
 
 -- where the bytes of records stand, the list has these records
@@ -44,7 +44,7 @@ records-joined a list (r ∷ rs) rest whole e =
     let long : length r ≡ 24 = All-head (λ r. length r ≡ 24) r rs whole in
     let split : drop (24 * a) list ≡ r ++ (joined rs ++ rest) = e ∙ append_assoc r (joined rs) rest in
     let here : record_in list a ≡ r = ap (take 24) split ∙ take_at r (joined rs ++ rest) 24 long in
-    let behind : drop (24 * (a + 1)) list ≡ joined rs ++ rest = next_place a list ∙ (ap (drop 24) split ∙ drop_at r (joined rs ++ rest) 24 long) in
+    let behind : drop (24 * (a + 1)) list ≡ joined rs ++ rest = next_offset a list ∙ (ap (drop 24) split ∙ drop_at r (joined rs ++ rest) 24 long) in
     let more = records-joined (a + 1) list rs rest (All-tail (λ r. length r ≡ 24) r rs whole) behind in
     λ i. here i ∷ more i
 

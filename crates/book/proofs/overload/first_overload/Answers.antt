@@ -15,18 +15,18 @@ use Rattle.book.proofs.WorkInside.{ends_at}
 use Rattle.book.proofs.Searching.{over_passed, over_at, overloaded_proper, ended_before, ended_all, work_up_to, passed_early, passed_within, first_overload_none, first_overload_at}
 use Rattle.book.proofs.overload.first_overload.Goals as goal
 
-pub loop-demand-preserved-then-demand-start : goal.loop-demand-preserved-then-demand-start
-loop-demand-preserved-then-demand-start c =
+pub loop-demand-preserved-then-demand-from : goal.loop-demand-preserved-then-demand-from
+loop-demand-preserved-then-demand-from c =
     let i = c.loop-demand.demand-index in
     let ds = c.demands.inside.list.now in
     let d = c.demand-item.result in
-    let more = sum_by_more (work_from c.loop-start.start) ds i d c.loop-demand-test.true in
+    let more = sum_by_more (work_from c.loop-from.from) ds i d c.loop-demand-test.true in
     let here : get_or ds i d ≡ record { from = c.demand.inside.from; to = c.demand.inside.to; units = c.demand.inside.units } = sym (c.demand.view_is ∙ c.demand-item.is) in
-    let early : (get_or ds i d).from < c.loop-start.start = rw here c.if-demand-start.true in
+    let early : (get_or ds i d).from < c.loop-from.from = rw here c.if-demand-from.true in
     record {
       so_far = grind (arith, nat_tests, c.loop-demand.invariant.so_far);
       fits = omega (arith, c.loop-demand.invariant.fits);
-      passed = passed_early c.args.top ds c.loop-start.start i d c.loop-demand-test.true early c.loop-demand.invariant.passed;
+      passed = passed_early c.args.top ds c.loop-from.from i d c.loop-demand-test.true early c.loop-demand.invariant.passed;
     }
 
 pub loop-demand-preserved : goal.loop-demand-preserved
@@ -34,10 +34,10 @@ loop-demand-preserved c =
     let i = c.loop-demand.demand-index in
     let ds = c.demands.inside.list.now in
     let d = c.demand-item.result in
-    let start = c.loop-start.start in
+    let start = c.loop-from.from in
     let here : get_or ds i d ≡ record { from = c.demand.inside.from; to = c.demand.inside.to; units = c.demand.inside.units } = sym (c.demand.view_is ∙ c.demand-item.is) in
     let more = sum_by_more (work_from start) ds i d c.loop-demand-test.true in
-    let late : start ≤ (get_or ds i d).from = rw here c.if-demand-start.false in
+    let late : start ≤ (get_or ds i d).from = rw here c.if-demand-from.false in
     let units : c.from-work.result ≡ (get_or ds i d).units = rw here c.from-work.ensures in
     let so_far : c.loop-demand.work + c.from-work.result ≡ sum_by (work_from start) (take (i + 1) ds) = grind (arith, nat_tests, c.loop-demand.invariant.so_far) in
     let within : c.loop-demand.work + c.from-work.result ≤ c.args.top * ((get_or ds i d).to - start) =
@@ -48,15 +48,15 @@ loop-demand-preserved c =
       passed = passed_within c.args.top ds start i d c.loop-demand-test.true (omega (arith, so_far, within)) c.loop-demand.invariant.passed;
     }
 
-pub loop-start-preserved : goal.loop-start-preserved
-loop-start-preserved c a b lt = elim (cases_lt a c.loop-start.start) [
-  | inl before ↦ c.loop-start.invariant a b before
+pub loop-from-preserved : goal.loop-from-preserved
+loop-from-preserved c a b lt = elim (cases_lt a c.loop-from.from) [
+  | inl before ↦ c.loop-from.invariant a b before
   | inr here ↦
       let ds = c.demands.inside.list.now in
-      let same : c.loop-start.start ≡ a = omega arith in
+      let same : c.loop-from.from ≡ a = omega arith in
       rw (← c.demands.view_is)
       (subst (λ x. over c.args.top ds x b ≡ false) same
-      (over_passed c.args.top ds c.loop-start.start c.loop-demand.demand-index b c.demands.invariant.sorted c.loop-demand.invariant.passed
+      (over_passed c.args.top ds c.loop-from.from c.loop-demand.demand-index b c.demands.invariant.sorted c.loop-demand.invariant.passed
       (omega (arith, ended_all b ds, c.loop-demand-test.false))))
 ]
 
@@ -65,12 +65,12 @@ returns-then-work-from c =
     let i = c.loop-demand.demand-index in
     let ds = c.demands.inside.list.now in
     let d = c.demand-item.result in
-    let start = c.loop-start.start in
+    let start = c.loop-from.from in
     let end = c.demand.inside.to in
     let here : get_or ds i d ≡ record { from = c.demand.inside.from; to = end; units = c.demand.inside.units } = sym (c.demand.view_is ∙ c.demand-item.is) in
     let ended : (get_or ds i d).to ≡ end = ap (λ (e : Demand). e.to) here in
     let window = All-get_or (λ e. (e.from < e.to) × (e.to ≤ horizon)) ds i d c.loop-demand-test.true (subst (NonEmpty horizon) (sym c.demands.view_is) c.requires) in
-    let late : start ≤ (get_or ds i d).from = rw here c.if-demand-start.false in
+    let late : start ≤ (get_or ds i d).from = rw here c.if-demand-from.false in
     let units : c.from-work.result ≡ (get_or ds i d).units = rw here c.from-work.ensures in
     let before = sum_by_more (work_from start) ds i d c.loop-demand-test.true in
     let so_far : c.loop-demand.work + c.from-work.result ≡ sum_by (work_from start) (take (i + 1) ds) = grind (arith, nat_tests, c.loop-demand.invariant.so_far) in
@@ -86,9 +86,9 @@ returns-then-work-from c =
     (overloaded_proper horizon c.args.top ds start end c.demands.invariant.sound more)
     (omega (arith, ended, window.1))
     (over_at c.args.top ds start end begins ends_here more)
-    (λ x y lt. subst (λ es. over c.args.top es x y ≡ false) (sym c.demands.view_is) (c.loop-start.invariant x y lt))
+    (λ x y lt. subst (λ es. over c.args.top es x y ≡ false) (sym c.demands.view_is) (c.loop-from.invariant x y lt))
     (λ y lt. over_passed c.args.top ds start i y c.demands.invariant.sorted c.loop-demand.invariant.passed (ended_before y i ds d (omega (arith, ended)))) in
     sym found ∙ ap (λ es. first_overload c.args.top es 0 horizon) c.demands.view_is
 
-pub returns-after-loop-start : goal.returns-after-loop-start
-returns-after-loop-start c = sym (first_overload_none c.args.top c.args.demands.now 0 horizon (λ x y lt. c.loop-start.invariant x y (omega (arith, theory.ticks))))
+pub returns-after-loop-from : goal.returns-after-loop-from
+returns-after-loop-from c = sym (first_overload_none c.args.top c.args.demands.now 0 horizon (λ x y lt. c.loop-from.invariant x y (omega (arith, theory.ticks))))

@@ -6,14 +6,14 @@ use Rattle.layout.specs.declared.job.Job.{Job}
 use Rattle.layout.specs.Jobs.{job_after}
 use Rattle.book.proofs.Jobs.{no_job}
 use Rattle.book.proofs.Ready.{took_none}
-use Rattle.book.proofs.Serving.{Start, Serving, first_state, started, next_job, next_units, next_bound, next_is, next_room, next_serving, used_up, all_served}
+use Rattle.book.proofs.Serving.{Start, WhileServing, first_state, started, next_job, next_units, next_bound, next_is, next_room, next_serving, used_up, all_served}
 use Rattle.book.proofs.tick.serve.Goals as goal
 
 pub loop-left-init : goal.loop-left-init
 loop-left-init c =
     let start : Start = record { now = c.args.now; units = c.args.setting; jobs = c.args.jobs.now; list = c.args.list.now } in
     let q = elements_of (slots_of c.ready_jobs-ready.result) in
-    subst (λ v. Serving start (record { left = v; count = 0; jobs = start.jobs; list = start.list; queue = q })) (sym c.from-left.ensures)
+    subst (λ v. WhileServing start (record { left = v; count = 0; jobs = start.jobs; list = start.list; queue = q })) (sym c.from-left.ensures)
     (started start q c.requires.few c.requires.in_order c.requires.open c.ready_jobs-ready.ensures)
 
 pub bounds-jobs-from : goal.bounds-jobs-from

@@ -16,4 +16,4 @@ returns-clause-only c =
     let b = c.args.bytes.now in
     let kind : Some c.in_ok-kind.kind ≡ kind_of (get_or b 0 0) = search rules in
     let small : (i : ℕ) → get_or b i 0 < 256 = λ i. search rules in
-    only_form c.in_ok-kind.kind b (search rules) small kind (sym c.in_default.is ∙ c.first_forbidden.ensures) (content_of c.content_of.result) c.content_of.ensures
+    only_form c.in_ok-kind.kind b (search rules) small kind (sym c.in_default.is ∙ c.first_forbidden.ensures) (content_of c.record_in.result) c.record_in.ensures

@@ -4,7 +4,7 @@ use Rattle.record.proofs.writing.write.Goals as goal
 
 pub returns : goal.returns
 returns c =
-    let x = content_of c.args.entry.now in
+    let x = content_of c.args.said.now in
     let s = c.args.out.now in
     let made = c.in_ok-bytes.ensures.said in
     let room = c.if-out-lt-RECORD_LEN.false in

@@ -1,7 +1,7 @@
 use Rattle.std.proofs.Common.{take}
 use Rattle.std.specs.Fmt.{HasWritten, IsPlainFormatter}
 use Rattle.transcript.specs.Text.{tick_text}
-use Rattle.transcript.proofs.line.TickDisplay.fmt.Given as goal
+use Rattle.transcript.proofs.line.ServedTickDisplay.fmt.Given as goal
 
 -- the entries so far are written
 abbrev pub invariant-loop-entry : goal.invariant-loop-entry
