@@ -86,7 +86,10 @@ fn plannable<'a>(
 /// C passes the demands as a pointer, then their number. Neither pointer is null, even for no demand, and `found` lies apart from
 /// the demands.
 #[unsafe(no_mangle)]
-pub extern "C" fn planner_settings(demands: &[PlannerDemand], found: &mut PlannerSettingsList) -> u32
+pub extern "C" fn planner_settings(
+    demands: &[PlannerDemand],
+    found: &mut PlannerSettingsList,
+) -> u32
     ensures many { result ≡ 1 ↔ 64 < length demands.now }
     ensures planned { result ≡ 0 ↔ Plannable (as_demands demands.now) }
     ensures otherwise { result ≤ 2 }
