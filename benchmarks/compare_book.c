@@ -126,15 +126,13 @@ static bool same_ticks(size_t sample) {
     return true;
 }
 
-bool are_books_passed(void) {
+void compare_books(void) {
     static const struct contest offers = {"offer", SAMPLES, OFFERS, make_offer, proved_offers, c_offers, same_offers};
     static const struct contest ticks = {"tick", SAMPLES, SERVED, make_tick, proved_ticks, c_ticks, same_ticks};
     static const struct kind offered[] = {{"by chance", 64, 4}, {"by chance", 64, 255}, {"begun", 64, 16}, {"overload", 64, 16}};
     static const struct kind ticked[] = {{"by chance", 64, 4}, {"by chance", 64, 16}, {"by chance", 64, 255}, {"begun", 64, 16}};
-    bool passed = true;
     for (size_t i = 0; i < sizeof offered / sizeof offered[0]; i++)
-        passed &= is_passed(&offers, &offered[i]);
+        compare(&offers, &offered[i]);
     for (size_t i = 0; i < sizeof ticked / sizeof ticked[0]; i++)
-        passed &= is_passed(&ticks, &ticked[i]);
-    return passed;
+        compare(&ticks, &ticked[i]);
 }

@@ -66,16 +66,14 @@ static bool same_blocks(size_t sample) {
     return true;
 }
 
-bool are_planners_passed(void) {
+void compare_planners(void) {
     static const struct contest settings = {"settings", SAMPLES, 1, make, proved_settings, c_settings, same_settings};
     static const struct contest blocks = {"blocks", SAMPLES, 1, make, proved_blocks, c_blocks, same_blocks};
     static const struct kind plans[] = {{"by chance", 8, 4}, {"by chance", 8, 255}, {"by chance", 64, 4}, {"by chance", 64, 16}, {"by chance", 64, 255}, {"begun", 64, 16}};
     /* With so little work many pairs have as much of it to a tick. */
     static const struct kind rounds[] = {{"by chance", 8, 4}, {"nested", 8, 255}, {"by chance", 64, 4}, {"begun", 64, 4}, {"nested", 64, 255}};
-    bool passed = true;
     for (size_t i = 0; i < sizeof plans / sizeof plans[0]; i++)
-        passed &= is_passed(&settings, &plans[i]);
+        compare(&settings, &plans[i]);
     for (size_t i = 0; i < sizeof rounds / sizeof rounds[0]; i++)
-        passed &= is_passed(&blocks, &rounds[i]);
-    return passed;
+        compare(&blocks, &rounds[i]);
 }

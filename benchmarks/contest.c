@@ -4,7 +4,7 @@
 #include <stdio.h>
 #include <time.h>
 
-enum { ROUNDS = 20 };
+enum { ROUNDS = 10 };
 
 static double now(void) {
     struct timespec time;
@@ -32,16 +32,12 @@ static bool are_agreed(const struct contest *contest, const struct kind *kind) {
     return true;
 }
 
-void print_heading(void) {
-    printf("%-10s %-10s %5s %5s %12s %12s %7s\n", "call", "book", "jobs", "top", "proved, us", "plain, us", "ratio");
-}
-
-bool is_passed(const struct contest *contest, const struct kind *kind) {
+void compare(const struct contest *contest, const struct kind *kind) {
     double proved = 1e300, plain = 1e300;
-    printf("%-10s %-10s %5u %5u ", contest->what, kind->name, kind->jobs, kind->top);
+    printf("%s\t%s\t%u\t%u\t", contest->what, kind->name, kind->jobs, kind->top);
     if (!are_agreed(contest, kind)) {
-        printf("the answers differ\n");
-        return false;
+        printf("differ\n");
+        return;
     }
     for (int round = 0; round < ROUNDS; round++) {
         /* The proved way goes first in every other round. */
@@ -52,15 +48,10 @@ bool is_passed(const struct contest *contest, const struct kind *kind) {
             time_once(contest, contest->proved, &proved);
     }
     double calls = (double)(contest->samples * contest->times);
-    double ratio = proved / plain;
-    printf("%12.2f %12.2f %7.2f%s\n", proved / calls, plain / calls, ratio, ratio > MOST_RATIO ? "  too much" : "");
-    return ratio <= MOST_RATIO;
+    printf("%.3f\t%.3f\n", proved / calls, plain / calls);
 }
 
 int main(void) {
-    print_heading();
-    bool planners = are_planners_passed();
-    bool books = are_books_passed();
-    printf(planners && books ? "each answer is the same, and no ratio is above %.1f\n" : "an answer differs, or a ratio is above %.1f\n", MOST_RATIO);
-    return !(planners && books);
+    compare_planners();
+    compare_books();
 }

@@ -4,10 +4,7 @@
 #include <stdbool.h>
 #include <stddef.h>
 
-/* The greatest ratio of the proved time to the plain one that passes. */
-#define MOST_RATIO 1.5
-
-/* How the samples of a contest are made. */
+/* How the samples of a contest are made. Its name has no tab. */
 struct kind {
     const char *name;
     unsigned jobs;
@@ -26,14 +23,12 @@ struct contest {
     bool (*agree)(size_t sample);
 };
 
-/* Prints the heading of the lines that `is_passed` prints. */
-void print_heading(void);
+/* Prints the call, the kind, and the microseconds of a call by the proved way and by the plain one: the least of some rounds, or `differ` where the answers do.
+   Fields have a tab between them. */
+void compare(const struct contest *contest, const struct kind *kind);
 
-/* Prints the times of both and their ratio, by the least of some rounds. Answers whether they agree and the ratio passes. */
-bool is_passed(const struct contest *contest, const struct kind *kind);
-
-/* The contests. Each answers whether all of its kinds passed. */
-bool are_planners_passed(void);
-bool are_books_passed(void);
+/* The contests. */
+void compare_planners(void);
+void compare_books(void);
 
 #endif

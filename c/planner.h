@@ -62,23 +62,27 @@ PLANNER_STATIC_ASSERT(sizeof(struct planner_block_list) == 776, "planner_block_l
    The planner knows no top. It plans for up to 64 * 65535 units, so settings can be greater than any that a console has: whoever admits
    work compares it with the top. Where no interval has more work than its length times the top, no setting exceeds the top.
 
-   The calls keep no state, take no heap and never fail otherwise. Any number of them may run at once, on other lists. */
+   The calls keep no state, take no heap and never fail otherwise. Any number of them may run at once, on other lists.
+
+   Stack was measured on x86-64 for the library as `rt lib` builds it: a call ran in a thread whose stack was painted, and the bytes below its
+   caller that no longer showed the paint were counted, those of memcpy and memset with them. No call goes deeper for other demands: none
+   calls itself, and all lists have their full size. benchmarks/cost.sh measures stack and time again. */
 
 /* Writes the settings in force.
 
-   Time: in proportion to the units, since each is allocated by itself: a replacement in a queue of at most 256 ticks, which goes down at
-   most 8 levels, and a pass over the ticks between its own and the start of its window, at most 255. Besides, each demand with units
-   queues at most 256 ticks. So n demands of u units in all take O(256 n + u (8 + 255)).
-   Measured: @SETTINGS_TIME@
-   Stack: @SETTINGS_STACK@ */
+   Time: in proportion to the units, since each is allocated by itself: a replacement in a queue of at most T = 256 ticks, which goes down
+   at most 8 levels, and a pass or two over the ticks around the start of its window. Besides, each demand with units queues at most T
+   ticks. So n demands of u units in all take O(n T log T + u T).
+   Measured: some 0.1 us a unit at 2.5 GHz, from 2,000 units up to 64 * 65535, which took 0.35 s.
+   Stack: 4.6 KB. */
 uint32_t planner_settings(const struct planner_demand *demands, size_t count, struct planner_settings_list *found);
 
-/* Writes the critical blocks of the demands that have units. The blocks of the list from `count` on are left as they were.
+/* Writes the critical blocks of the demands that have units. The blocks of the list from its `count` on are left as they were.
 
    Time: it does not depend on the units. Each round looks at each pair of a start and an end among the k demands that are left, adds up
-   the units of those inside, and allocates at least one demand. So n demands take O(n) rounds of O(k^3 + 256), at most O(n^4).
-   Measured: @BLOCKS_TIME@
-   Stack: @BLOCKS_STACK@ */
+   the units of those inside, and allocates at least one demand. So n demands take at most n rounds of O(k^3 + T), which is O(n^4 + n T).
+   Measured, with a block for each demand: 5, 24, 250 and 3,600 us for 8, 16, 32 and 64 demands at 2.5 GHz.
+   Stack: 3.8 KB. */
 uint32_t planner_blocks(const struct planner_demand *demands, size_t count, struct planner_block_list *found);
 
 #undef PLANNER_STATIC_ASSERT
