@@ -40,5 +40,6 @@ cc "$out/shift.o" "${objects[@]}" "${libraries[@]}" -o "$out/compare-shifted"
 version() { "$1" --version | head -n 1; }
 echo "proved: rt lib, $(version "$own"), $level, $cpu"
 echo "plain:  $(basename "$compiler"), $(version "$compiler"), ${flags[*]}"
+echo "times:  the least of 10 rounds in each of two programs, whose code the linker puts 16 bytes apart; each side's least counts"
 echo
 { "$out/compare"; "$out/compare-shifted"; } | awk -F '\t' -f table.awk
