@@ -196,11 +196,13 @@ def shown(value):
 def case(small):
     """The lines of a small book and of what is found for it."""
     demands = listed(f'job {demand.start} {demand.end} {demand.units}' for demand in small.demands)
-    found = '; '.join(f'{name} = {shown(value)}' for name, value in answers(small).items())
+    found = [f'        {name} = {shown(value)};' for name, value in answers(small).items()]
     return [
         '    record {',
         f'      book = record {{ ticks = {small.ticks}; top = {small.top}; demands = {demands} }};',
-        f'      found = record {{ {found} }};',
+        '      found = record {',
+        *found,
+        '      };',
         '    } ∷',
     ]
 

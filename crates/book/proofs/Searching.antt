@@ -11,7 +11,8 @@ use Rattle.schedule.specs.Demands.{Demand, Sound, Sorted}
 use Rattle.schedule.specs.Work.{work}
 use Rattle.schedule.specs.Overload.{starts, ends, overloaded, over, first, up_to, first_overload}
 use Rattle.schedule.proofs.WorkLaws.{work_empty}
-use Rattle.book.proofs.WorkInside.{work_from, work-at_least, work-at_most}
+use Rattle.schedule.proofs.WorkLaws.{work_from}
+use Rattle.book.proofs.WorkInside.{work-at_least, work-at_most}
 
 -- the first of n numbers that passes a test
 first_none : (p : ℕ → Bool) (k n : ℕ) → ((i : ℕ) → p i ≡ false) → first p k n ≡ None

@@ -1,5 +1,5 @@
 -- The work inside an interval, by the demands in order of deadline.
-use Rattle.std.proofs.Common.{◌≡◌, ℕ, zero, suc, ◌<◌, ◌≤◌, true, cond, nat_le, List, [], ◌∷◌, length, get_or, take, drop, refl, arith}
+use Rattle.std.proofs.Common.{◌≡◌, ℕ, zero, suc, ◌<◌, ◌≤◌, true, List, [], ◌∷◌, length, get_or, take, drop, refl, arith}
 use Rattle.std.specs.List.{All, sum_by}
 use Rattle.std.proofs.lemmas.Bool.Decides.{nat_tests}
 use Rattle.std.proofs.lemmas.List.Elements.{All-head, All-tail}
@@ -7,16 +7,13 @@ use Rattle.std.proofs.lemmas.List.Sums.{sum_by-cons}
 use Rattle.schedule.specs.Demands.{Demand}
 use Rattle.schedule.specs.Overload.{ends}
 use Rattle.schedule.specs.Work.{work}
+use Rattle.schedule.proofs.WorkLaws.{work_from}
 
 -- the end of each demand is one
 pub ends_at : (i : ℕ) (ds : List Demand) (e : Demand) → i < length ds → ends (get_or ds i e).to ds ≡ true
 ends_at i [] e h = absurd (omega arith)
 ends_at zero (d ∷ ds) e h = grind (arith, nat_tests)
 ends_at (suc i) (d ∷ ds) e h = let r = ends_at i ds e (omega arith) in grind (arith, nat_tests)
-
--- the work of a demand whose window does not start before a
-abbrev pub work_from : ℕ → Demand → ℕ
-work_from a d = cond (nat_le a d.from) d.units 0
 
 -- in an interval lies at least the work of the first n demands, where none of them ends after it
 pub work-at_least : (a b n : ℕ) (ds : List Demand) → All (λ d. d.to ≤ b) (take n ds) → sum_by (work_from a) (take n ds) ≤ work ds a b

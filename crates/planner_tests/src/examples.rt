@@ -1,6 +1,6 @@
 // The examples that stand at the calls of `planner`.
-use super::samples::demand;
-use planner::{Demand, Demands, RelativeBlock, critical_blocks, settings};
+use super::samples::{check_settings, demand};
+use planner::{Demand, Demands, RelativeBlock, critical_blocks};
 use std::process::Abort;
 
 // [0, 2) with 3 units, and [0, 3) with 1.
@@ -14,10 +14,7 @@ fn demands_of<'a>(rt: &impl Abort, list: &'a [Demand]) -> Demands<'a> {
 
 #[test]
 fn of_settings(rt: HostRuntime) {
-    let list = list();
-    let settings = settings(&demands_of(&rt, &list));
-    assert_eq!(rt; &settings[..3], &[2, 1, 1]);
-    assert!(rt; settings[3..].iter().all(|setting| *setting == 0));
+    check_settings(&rt, &list(), &[2, 1, 1]);
 }
 
 #[test]
@@ -51,5 +48,6 @@ fn of_critical_blocks(rt: HostRuntime) {
         from: 2,
         to: 3,
     };
-    assert_eq!(rt; blocks.list(), &[first, second]);
+    let expected: &[RelativeBlock] = &[first, second];
+    assert_eq!(rt; blocks.list(), expected);
 }

@@ -97,7 +97,7 @@ at_top before o xs i z up = to_heap before xs (λ e. up_top before o (λ k. get_
 pub at_bottom : {X : Type 0} (before : X → X → Bool) (o : IsStrictWeakOrder before) (xs : List X) (i : ℕ) → length xs / 2 ≤ i → OrderedButBelow before xs i → IsHeap before xs
 at_bottom before o xs i le down = to_heap before xs (λ e. down_done before o (λ k. get_or xs k e) (length xs) i (down e) (λ k ck kN. absurd (omega arith)))
 
--- x in place of the last element of a list that is a heap without it, and in place of the first of a heap
+-- x instead of the last element of a list that is a heap without it, and instead of the first of a heap
 pub last_but_above : {X : Type 0} (before : X → X → Bool) (s : List X) (n : ℕ) (x : X) → n + 1 ≡ length s → IsHeap before (take n s) → OrderedButAbove before (set s n x) n
 last_but_above before s n x len h d = (
   (λ p k c kl ne.

@@ -34,7 +34,7 @@ module _ {X : Type 0} {before : X → X → Bool} (same : X → X → Bool) (one
         pinned = is_least same one o (elements_of q) x (0, some, at_0) least;
       }
 
-  -- the last one takes its place, and the m that are left come in the order of h
+  -- the last one comes instead of it, and the m that are left come in the order of h
   pub first_taken : (e : X) (h : List X) → 0 < m → IsPermutation (get_or q.slots m e ∷ drop 1 (take m q.slots)) h → r ≡ record { slots = h ++ drop m q.slots; count = m } → TakeSays before same q r (Some (get_or q.slots 0 d))
   first_taken e h some p is =
       let s = q.slots in
@@ -82,7 +82,7 @@ module _ {X : Type 0} {before : X → X → Bool} (same : X → X → Bool) (one
   pub least_said : LeastSays before same q (Some (get_or q.slots 0 d))
   least_said = (rest, first_out)
 
-  -- x takes the place of the first one, and all come in the order of h
+  -- x comes instead of the first one, and all come in the order of h
   pub first_replaced : (x : X) (h : List X) → IsPermutation (x ∷ drop 1 (elements_of q)) h → ReplaceSays before same x q record { slots = h ++ drop q.count q.slots; count = q.count } (Some (get_or q.slots 0 d))
   first_replaced x h p =
       let lh : length h ≡ q.count = omega (arith, length_permutation _ _ p, length-others, some) in

@@ -10,7 +10,7 @@ use Rattle.std.proofs.lemmas.List.Elements.{All-head, All-tail, All-nil, All-con
 use Rattle.std.proofs.lemmas.List.Folds.{list_any_none}
 use Rattle.std.proofs.lemmas.List.Quantifiers.{position-Some}
 use Rattle.std.proofs.lemmas.Slice.Eq.{bytes_eq-Decides}
-use Rattle.layout.proofs.BigEndian.{number-bytes}
+use Rattle.layout.proofs.Encodings.{job_in-record_bytes}
 use Rattle.layout.specs.declared.job.Job.{Job}
 use Rattle.book.specs.Jobs.{is_before, has_ticket, is_ticket_open}
 use Rattle.book.specs.Book.{IsOpenAt}
@@ -26,11 +26,7 @@ test_from_open now j h = grind (arith, nat_tests, h.some_ticket, h.work_left, h.
 -- the record of a job says the job
 pub said : (now : ℕ) (j : Job) → IsOpenAt now j → IsSized j → job_in (job_record j) ≡ j
 said now j o s =
-    let ticket = number-bytes 2 j.ticket s.ticket in
-    let arrival = number-bytes 6 j.arrival (omega (arith, o.in_time, o.some_window)) in
-    let deadline = number-bytes 6 j.deadline (omega (arith, o.in_time)) in
-    let work = number-bytes 2 j.work s.work in
-    λ i. record { ticket = ticket i; arrival = arrival i; deadline = deadline i; work = work i }
+    job_in-record_bytes 0x4a j (replicate 6 0) s (omega (arith, o.in_time, o.some_window)) (omega (arith, o.in_time))
 
 -- what a record says that has the form of a job's has the sizes of the fields
 sized : (r : List ℕ) → r ≡ job_record (job_in r) → IsSized (job_in r)

@@ -10,7 +10,8 @@ use Rattle.schedule.specs.Work.{work}
 use Rattle.schedule.specs.InForce.{horizon}
 use Rattle.schedule.specs.Compressed.{NonEmpty}
 use Rattle.schedule.proofs.Theory.{theory}
-use Rattle.book.proofs.WorkInside.{work_from, ends_at}
+use Rattle.schedule.proofs.WorkLaws.{work_from}
+use Rattle.book.proofs.WorkInside.{ends_at}
 use Rattle.book.proofs.Searching.{over_passed, over_at, overloaded_proper, ended_before, ended_all, work_up_to, passed_early, passed_within, first_overload_none, first_overload_at}
 use Rattle.book.proofs.overload.first_overload.Goals as goal
 

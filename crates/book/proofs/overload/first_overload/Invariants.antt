@@ -1,7 +1,7 @@
 use Rattle.std.proofs.Common.{◌≡◌, ℕ, ◌*◌, ◌<◌, ◌≤◌, false, take}
 use Rattle.std.specs.List.{sum_by}
 use Rattle.schedule.specs.Overload.{over}
-use Rattle.book.proofs.WorkInside.{work_from}
+use Rattle.schedule.proofs.WorkLaws.{work_from}
 use Rattle.book.proofs.Searching.{Passed}
 use Rattle.book.proofs.overload.first_overload.Given as goal
 
