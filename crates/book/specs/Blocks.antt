@@ -1,15 +1,14 @@
 -- What the call blocks answers, and what its list holds afterwards.
-use Rattle.std.specs.Prelude.{ℕ, ◌+◌, if◌then◌else◌, List, length, map, Some, None, Option, nat_lt}
+use Rattle.std.specs.Prelude.{ℕ, ◌+◌, List, length, map}
 use Rattle.schedule.specs.InForce.{horizon}
 use Rattle.schedule.specs.Blocks.{blocks}
 use Rattle.planner.specs.declared.blocks.RelativeBlock.{RelativeBlock}
 use Rattle.planner.specs.Blocks.{block_of}
 use Rattle.book.specs.declared.blocks.CriticalBlock.{CriticalBlock}
 use Rattle.book.specs.declared.fault.BookFault.{BookFault}
-use Rattle.book.specs.declared.fault.BookFault.TheVariants.{Short}
 use Rattle.book.specs.Demands.{demands}
 use Rattle.book.specs.Book.{View}
-use Rattle.book.specs.Lists.{list_with}
+use Rattle.book.specs.Lists.{list_with, short_fault}
 use Rattle.book.specs.Outcomes.{Outcome, accepted, outcome}
 
 -- a block of the planner, whose ticks count from now, in ticks of time
@@ -20,12 +19,8 @@ block_in_time now b = record { speed = b.speed; start = now + b.from; end = now 
 abbrev pub blocks_of : View → List CriticalBlock
 blocks_of b = map (λ c. block_in_time b.now (block_of c)) (blocks horizon (demands b.now b.jobs))
 
--- why the blocks are not written
-abbrev pub blocks_fault : List CriticalBlock → Option BookFault
-blocks_fault list = if nat_lt (length list) 64 then Some (Short 64) else None
-
 -- blocks writes the critical blocks into the first elements of the list, and answers how many there are
 abbrev pub blocks_outcome : View → List CriticalBlock → Outcome ℕ BookFault (List CriticalBlock)
 blocks_outcome b list =
     let found = blocks_of b in
-    outcome (blocks_fault list) b list (accepted (length found) b (list_with found list))
+    outcome (short_fault 64 list) b list (accepted (length found) b (list_with found list))

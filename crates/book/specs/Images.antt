@@ -8,9 +8,10 @@ use Rattle.layout.specs.BigEndian.{part}
 use Rattle.layout.specs.Jobs.{job_in, last_tick, record_bytes}
 use Rattle.layout.specs.declared.job.Job.{Job}
 use Rattle.book.specs.declared.fault.BookFault.{BookFault}
-use Rattle.book.specs.declared.fault.BookFault.TheVariants.{Short, Image}
+use Rattle.book.specs.declared.fault.BookFault.TheVariants.{Image}
 use Rattle.book.specs.Jobs.{is_before, is_ticket_open}
 use Rattle.book.specs.Book.{View}
+use Rattle.book.specs.Lists.{short_fault}
 use Rattle.book.specs.Outcomes.{Outcome, accepted, outcome}
 use Rattle.book.specs.Calls.{plain_outcome, first_overload_of}
 
@@ -36,13 +37,9 @@ image_records b = clock_record b.now b.top ∷ (map job_record b.jobs ++ replica
 abbrev pub image : View → List ℕ
 image b = flat_map (λ r. r) (image_records b)
 
--- why an image is not written or read
-abbrev pub length_fault : List ℕ → Option BookFault
-length_fault list = if nat_lt (length list) 1560 then Some (Short 1560) else None
-
 -- save writes the image into the first elements of the list
 abbrev pub save_outcome : View → List ℕ → Outcome (Unit {0}) BookFault (List ℕ)
-save_outcome b list = outcome (length_fault list) b list (accepted tt b (image b ++ drop 1560 list))
+save_outcome b list = outcome (short_fault 1560 list) b list (accepted tt b (image b ++ drop 1560 list))
 
 -- the record k of a list
 abbrev pub record_in : List ℕ → ℕ → List ℕ
@@ -116,7 +113,7 @@ overload_record b = option_map (λ ab. 65) (first_overload_of b)
 -- why an image is not loaded
 abbrev pub load_fault : List ℕ → Option BookFault
 load_fault list =
-    option_or (length_fault list) (option_map Image (option_or (first_wrong list) (overload_record (book_in list))))
+    option_or (short_fault 1560 list) (option_map Image (option_or (first_wrong list) (overload_record (book_in list))))
 
 -- load makes the book that of an image
 abbrev pub load_outcome : View → List ℕ → Outcome (Unit {0}) BookFault (Unit {0})

@@ -1,17 +1,18 @@
 -- What the call tick answers, the book that it leaves, and what its list holds afterwards.
 use Rattle.std.specs.Prelude.{◌≡◌, ℕ, ◌+◌, Bool, if◌then◌else◌, List, length, map, take, sum_by, Some, None}
 use Rattle.std.specs.Prelude.{Ok, Err, Option, Result, ◌==◌, nat_lt}
+use Rattle.std.specs.Option.{option_or}
 use Rattle.std.specs.List.{filter, zip}
 use Rattle.schedule.specs.Edf.{serve}
 use Rattle.layout.specs.declared.job.Job.{Job}
 use Rattle.layout.specs.Jobs.{job_after, last_tick}
 use Rattle.book.specs.declared.fault.BookFault.{BookFault}
-use Rattle.book.specs.declared.fault.BookFault.TheVariants.{Short, LastTick}
+use Rattle.book.specs.declared.fault.BookFault.TheVariants.{LastTick}
 use Rattle.book.specs.declared.tick.Entry.{Entry}
 use Rattle.book.specs.declared.tick.Served.{Served}
 use Rattle.book.specs.Demands.{demands}
 use Rattle.book.specs.Book.{View}
-use Rattle.book.specs.Lists.{list_with}
+use Rattle.book.specs.Lists.{list_with, short_fault}
 use Rattle.book.specs.Outcomes.{Outcome, accepted, outcome}
 use Rattle.book.specs.Settings.{settings_of}
 
@@ -45,8 +46,7 @@ book_after_tick b = record { now = b.now + 1; top = b.top; jobs = filter has_wor
 -- why a tick is refused
 abbrev pub tick_fault : View → List Entry → Option BookFault
 tick_fault b list =
-    if nat_lt (length list) 64 then Some (Short 64) else
-    if b.now == last_tick then Some (LastTick b.now) else None
+    option_or (short_fault 64 list) (if b.now == last_tick then Some (LastTick b.now) else None)
 
 -- a tick serves the open jobs: it answers its setting and the count of entries, which stand in the first elements of
 -- the list

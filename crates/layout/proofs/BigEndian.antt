@@ -45,3 +45,8 @@ number_fits bs u k h =
     let small = All-from_get_or (λ d. d < 256) bs 0 (λ i q. u i) in
     let below = number_lt 256 (take k bs) (recursion_from_All (λ d. d < 256) (take k bs) (All-take (λ d. d < 256) k bs small)) in
     rw length-take-le at below
+
+-- k bytes hold a number below 256 ^ k
+pub bytes_fit : (k n : ℕ) → number (bytes k n) < 256 ^ k
+bytes_fit zero n = omega arith
+bytes_fit (suc k) n = let rest = bytes_fit k (n / 256) in let push = number_push 256 (bytes k (n / 256)) (n % 256) in let p = pow-suc 256 k in omega (arith, push)

@@ -11,7 +11,8 @@ use Rattle.std.proofs.Math.Seq.{take-append-add}
 use Rattle.std.proofs.lemmas.Slice.Eq.{bytes_eq-Decides}
 use Rattle.schedule.specs.InForce.{horizon}
 use Rattle.schedule.specs.Overload.{Searched}
-use Rattle.book.specs.Images.{top_in, now_in, is_clock, book_in, first_wrong, length_fault, load_fault, load_outcome, clock_record, image, image_records, record_in, later_records, job_record, blank_record, first_wrong_later}
+use Rattle.book.specs.Lists.{short_fault}
+use Rattle.book.specs.Images.{top_in, now_in, is_clock, book_in, first_wrong, load_fault, load_outcome, clock_record, image, image_records, record_in, later_records, job_record, blank_record, first_wrong_later}
 use Rattle.layout.proofs.BigEndian.{number-bytes}
 use Rattle.layout.specs.declared.job.Job.{Job}
 use Rattle.book.specs.declared.fault.BookFault.TheVariants.{Short, Image}
@@ -131,7 +132,7 @@ none_over b lawful = go (first_overload_of b) refl
     go (Some xy) e = absurd ((subst (Searched horizon (demands b.now b.jobs) b.top) e (searched b lawful.well_formed)).1 lawful.none_overloaded)
 
 -- the length of a list that is loaded
-long_enough : (list : List ℕ) → 1560 ≤ length list → length_fault list ≡ None
+long_enough : (list : List ℕ) → 1560 ≤ length list → short_fault 1560 list ≡ None
 long_enough list le = cond-false (nat_lt (length list) 1560) (Some (Short 1560)) None (le-ltb (length list) 1560 le)
 
 length-shown : (list : List ℕ) (b : View) → length b.jobs ≤ 64 → Shows list b → 1560 ≤ length list
@@ -141,7 +142,7 @@ length-shown list b few e = omega (arith, ap length e, length-image b few, lengt
 loads : (list : List ℕ) (b : View) → IsLawful b → AreSized b → Shows list b → load_fault list ≡ None
 loads list b lawful fit e =
     let w = lawful.well_formed in
-    let long : length_fault list ≡ None = long_enough list (length-shown list b w.few e) in
+    let long : short_fault 1560 list ≡ None = long_enough list (length-shown list b w.few e) in
     let none : first_wrong list ≡ None = none_wrong_shown b w fit list e in
     let over : first_overload_of (book_in list) ≡ None = ap first_overload_of (book_shown b w fit list e) ∙ none_over b lawful in
     λ i. option_or (long i) (option_map Image (option_or (none i) (option_map (λ ab. 65) (over i))))

@@ -6,7 +6,6 @@ use Rattle.std.specs.Option.{option_map, option_or}
 use Rattle.std.specs.Str.{bytes_eq}
 use Rattle.std.proofs.lemmas.Bool.{cases_Bool, and_parts, cond-true, cond-false, not-true}
 use Rattle.std.proofs.lemmas.Bool.Decides.{nat_tests, Decides-by_and}
-use Rattle.std.proofs.lemmas.Int.Digits.{number_push}
 use Rattle.std.proofs.lemmas.List.{length-map, length-take, append_assoc, append-nil}
 use Rattle.std.proofs.lemmas.List.Elements.{All-push}
 use Rattle.std.proofs.lemmas.List.FromFn.{length-map-range_with_len}
@@ -17,7 +16,9 @@ use Rattle.schedule.specs.InForce.{horizon}
 use Rattle.schedule.specs.Overload.{Searched}
 use Rattle.schedule.proofs.Theory.{theory}
 use Rattle.layout.specs.BigEndian.{number, bytes}
-use Rattle.book.specs.Images.{top_in, now_in, clock_record, job_record, blank_record, record_in, later_records, is_job_record, book_in, can_be_open, is_clock, is_next_job, first_not_blank, first_wrong_later, first_wrong, overload_record, length_fault, load_fault, load_outcome}
+use Rattle.layout.proofs.BigEndian.{bytes_fit}
+use Rattle.book.specs.Lists.{short_fault}
+use Rattle.book.specs.Images.{top_in, now_in, clock_record, job_record, blank_record, record_in, later_records, is_job_record, book_in, can_be_open, is_clock, is_next_job, first_not_blank, first_wrong_later, first_wrong, overload_record, load_fault, load_outcome}
 use Rattle.layout.specs.declared.job.Job.{Job}
 use Rattle.book.specs.declared.fault.BookFault.TheVariants.{Image}
 use Rattle.book.specs.Jobs.{is_before, is_ticket_open}
@@ -27,11 +28,6 @@ use Rattle.book.specs.Calls.{plain_outcome, first_overload_of}
 use Rattle.layout.specs.Jobs.{job_in}
 use Rattle.book.proofs.DemandFacts.{sound-demands}
 use Rattle.book.proofs.Offering.{others}
-
--- k bytes hold a number below 256 ^ k
-pub bytes_fit : (k n : ℕ) → number (bytes k n) < 256 ^ k
-bytes_fit zero n = omega arith
-bytes_fit (suc k) n = let rest = bytes_fit k (n / 256) in let push = number_push 256 (bytes k (n / 256)) (n % 256) in let p = pow-suc 256 k in omega (arith, push)
 
 -- jobs that can be open together
 pub record Standing (now : ℕ) (js : List Job) : Type 0 where
@@ -191,14 +187,14 @@ map_none f (Some x) e = absurd (cc)
 
 -- what an image is that is loaded
 pub record Loadable (list : List ℕ) : Type 0 where
-  pub long : length_fault list ≡ None
+  pub long : short_fault 1560 list ≡ None
   pub none_wrong : first_wrong list ≡ None
   pub none_over : first_overload_of (book_in list) ≡ None
 
 -- it has no fault
 pub loadable : (list : List ℕ) → load_fault list ≡ None → Loadable list
 loadable list e =
-    let length = or_none (length_fault list) (option_map Image (option_or (first_wrong list) (overload_record (book_in list)))) e in
+    let length = or_none (short_fault 1560 list) (option_map Image (option_or (first_wrong list) (overload_record (book_in list)))) e in
     let records = or_none (first_wrong list) (overload_record (book_in list)) (map_none Image (option_or (first_wrong list) (overload_record (book_in list))) length.1) in
     record { long = length.0; none_wrong = records.0; none_over = map_none (λ ab. 65) (first_overload_of (book_in list)) records.1 }
 

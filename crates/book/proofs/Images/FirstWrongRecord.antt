@@ -10,6 +10,7 @@ use Rattle.std.proofs.lemmas.List.Elements.{All-head, All-tail, All-nil, All-con
 use Rattle.std.proofs.lemmas.List.Folds.{list_any_none}
 use Rattle.std.proofs.lemmas.List.Quantifiers.{position-Some}
 use Rattle.std.proofs.lemmas.Slice.Eq.{bytes_eq-Decides}
+use Rattle.layout.proofs.BigEndian.{bytes_fit}
 use Rattle.layout.proofs.Encodings.{job_in-record_bytes}
 use Rattle.layout.specs.declared.job.Job.{Job}
 use Rattle.book.specs.Jobs.{is_before, has_ticket, is_ticket_open}
@@ -17,7 +18,7 @@ use Rattle.book.specs.Book.{IsOpenAt}
 use Rattle.layout.specs.Jobs.{job_in}
 use Rattle.book.specs.Images.{job_record, blank_record, can_be_open, is_next_job, first_not_blank, first_wrong_later}
 use Rattle.layout.specs.Jobs.{IsSized}
-use Rattle.book.proofs.Images.BookSaid.{all_before, map_none, Standing, Follows, bytes_fit, standing_push, next_job_parts, jobs_of, jobs_of_more, jobs_of_none}
+use Rattle.book.proofs.Images.BookSaid.{all_before, map_none, Standing, Follows, standing_push, next_job_parts, jobs_of, jobs_of_more, jobs_of_none}
 
 -- the test of a job that is open
 test_from_open : (now : ℕ) (j : Job) → IsOpenAt now j → can_be_open now j ≡ true
