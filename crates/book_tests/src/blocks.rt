@@ -1,25 +1,25 @@
 // Critical blocks: what is written, and what is refused.
 use super::samples::{book_of, check_left, job};
-use book::{Block, Book, BookFault, Entry};
+use book::{Book, BookFault, CriticalBlock, Entry, PLACES};
 use std::process::Abort;
 
-// What stands in a place of the list that no block takes.
-const FREE: Block = Block {
+// What an element of the list holds that no block is written into.
+const FREE: CriticalBlock = CriticalBlock {
     speed: (9, 9),
     start: 9,
     end: 9,
 };
 
-fn block(work: u32, length: u16, start: u64, end: u64) -> Block {
-    Block {
+fn block(work: u32, length: u16, start: u64, end: u64) -> CriticalBlock {
+    CriticalBlock {
         speed: (work, length),
         start,
         end,
     }
 }
 
-// The book has these critical blocks; the places after them stay as they were.
-fn check_blocks(rt: &impl Abort, book: &Book, blocks: &[Block]) {
+// The book has these critical blocks; the elements after them stay as they were.
+fn check_blocks(rt: &impl Abort, book: &Book, blocks: &[CriticalBlock]) {
     let mut list = [FREE; 66];
     let count = blocks.len();
     assert_eq!(rt; book.blocks(&mut list), Ok(count));
@@ -55,11 +55,11 @@ fn of_equal_speeds_from_one_start_the_longer_block_is_taken(rt: HostRuntime) {
 fn each_of_64_jobs_can_have_a_block_of_its_own(rt: HostRuntime) {
     let mut book = book_of(&rt, 255, &[]);
     let mut blocks = [FREE; 64];
-    for place in 0..64u16 {
-        let start = 4 * u64::from(place);
-        let work = 255 - place;
-        assert_eq!(rt; book.offer(job(place + 1, start, start + 1, work)), Ok(()));
-        blocks[usize::from(place)] = block(u32::from(work), 1, start, start + 1);
+    for index in 0..64u16 {
+        let start = 4 * u64::from(index);
+        let work = 255 - index;
+        assert_eq!(rt; book.offer(job(index + 1, start, start + 1, work)), Ok(()));
+        blocks[usize::from(index)] = block(u32::from(work), 1, start, start + 1);
     }
     check_blocks(&rt, &book, &blocks);
 }
@@ -68,10 +68,7 @@ fn each_of_64_jobs_can_have_a_block_of_its_own(rt: HostRuntime) {
 fn windows_are_seen_from_now(rt: HostRuntime) {
     let mut book = book_of(&rt, 4, &[job(7, 0, 2, 3), job(9, 0, 3, 1)]);
     check_blocks(&rt, &book, &[block(3, 2, 0, 2), block(1, 1, 2, 3)]);
-    let mut list = [Entry {
-        ticket: 0,
-        units: 0,
-    }; 64];
+    let mut list = [Entry::default(); PLACES];
     assert!(rt; book.tick(&mut list).is_ok());
     check_left(&rt, &book, 1, 4, &[job(7, 0, 2, 1), job(9, 0, 3, 1)]);
     check_blocks(&rt, &book, &[block(2, 2, 1, 3)]);
@@ -82,7 +79,7 @@ fn windows_are_seen_from_now(rt: HostRuntime) {
 }
 
 #[test]
-fn a_list_of_fewer_than_64_places_is_refused(rt: HostRuntime) {
+fn a_list_of_fewer_than_64_elements_is_refused(rt: HostRuntime) {
     let book = book_of(&rt, 4, &[job(1, 0, 10, 4)]);
     let short = BookFault::Short { needed: 64 };
     let mut list = [FREE; 63];

@@ -61,10 +61,10 @@ fn check_wrong(
     Ok(())
 }
 
-// The record with another byte at the place.
-fn changed(rt: &impl Abort, mut record: [u8; 24], place: usize, byte: u8) -> [u8; 24] {
-    assert!(rt; place < 24);
-    record[place] = byte;
+// The record with another byte at the offset.
+fn changed(rt: &impl Abort, mut record: [u8; 24], offset: usize, byte: u8) -> [u8; 24] {
+    assert!(rt; offset < 24);
+    record[offset] = byte;
     record
 }
 
@@ -141,7 +141,7 @@ fn short_lists_are_refused_and_left(rt: HostRuntime) -> Result<(), Fail> {
 }
 
 #[test]
-fn places_after_the_image_are_not_read(rt: HostRuntime) -> Result<(), Fail> {
+fn elements_after_the_image_are_not_read(rt: HostRuntime) -> Result<(), Fail> {
     let mut image = image_of(rt.alloc(), &[CLOCK, record_of(7, 5, 9, 3)])?;
     image.extend_from_slice(&[9; 24])?;
     check_loaded(&rt, image.as_slice(), 5, 4, &[job(7, 5, 9, 3)]);
@@ -153,7 +153,7 @@ fn a_wrong_first_record_is_number_0(rt: HostRuntime) -> Result<(), Fail> {
     check_wrong(&rt, rt.alloc(), &[], 0)?;
     check_wrong(&rt, rt.alloc(), &[record_of(7, 5, 9, 3)], 0)?;
     // Another kind, a byte that has to be 0, and top 0.
-    for (place, byte) in [
+    for (offset, byte) in [
         (0usize, 0x63u8),
         (1, 1),
         (3, 1),
@@ -162,7 +162,7 @@ fn a_wrong_first_record_is_number_0(rt: HostRuntime) -> Result<(), Fail> {
         (23, 1),
         (17, 0),
     ] {
-        check_wrong(&rt, rt.alloc(), &[changed(&rt, CLOCK, place, byte)], 0)?;
+        check_wrong(&rt, rt.alloc(), &[changed(&rt, CLOCK, offset, byte)], 0)?;
     }
     // Top 256.
     let no_top = changed(&rt, CLOCK, 17, 0);
@@ -173,7 +173,7 @@ fn a_wrong_first_record_is_number_0(rt: HostRuntime) -> Result<(), Fail> {
 #[test]
 fn a_wrong_job_is_named(rt: HostRuntime) -> Result<(), Fail> {
     let first = record_of(7, 5, 9, 3);
-    for (place, byte) in [
+    for (offset, byte) in [
         (0usize, 0x4bu8),
         (1, 1),
         (18, 1),
@@ -187,7 +187,7 @@ fn a_wrong_job_is_named(rt: HostRuntime) -> Result<(), Fail> {
         check_wrong(
             &rt,
             rt.alloc(),
-            &[CLOCK, changed(&rt, first, place, byte)],
+            &[CLOCK, changed(&rt, first, offset, byte)],
             1,
         )?;
     }

@@ -1,11 +1,14 @@
-//! Tests of the book: each refusal at its edges, the order of the open jobs, overloads against a search of another kind, settings, bills,
-//! ticks, critical blocks, images and which of their records is wrong, and what is told of its faults.
+//! Tests of the book: each refusal at its edges, the order of the open jobs, overloads against a search of another
+//! kind, settings, bills, ticks, critical blocks, images and which of their records is wrong, what is told of its
+//! faults, what `{:?}` shows of it, and the examples that stand at its calls and at those of a life.
 #![tactic(auto)]
 
 #[cfg(test)]
 mod bill;
 #[cfg(test)]
 mod blocks;
+#[cfg(test)]
+mod examples;
 #[cfg(test)]
 mod fields;
 #[cfg(test)]
@@ -16,6 +19,8 @@ mod overload;
 mod places;
 #[cfg(test)]
 mod samples;
+#[cfg(test)]
+mod shown;
 #[cfg(test)]
 mod telling;
 #[cfg(test)]

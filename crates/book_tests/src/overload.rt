@@ -87,13 +87,13 @@ fn slow_overload(jobs: &[Job], top: u16) -> Option<BookFault> {
     None
 }
 
-// The place of the job that has arrived, has work left and the earliest deadline.
+// The index of the job that has arrived, has work left and the earliest deadline.
 fn most_urgent(jobs: &[Job], tick: u64) -> Option<usize> {
     let mut first = None;
     let mut earliest = u64::MAX;
-    for (place, job) in jobs.iter().enumerate() {
+    for (index, job) in jobs.iter().enumerate() {
         if job.arrival <= tick && job.work > 0 && job.deadline < earliest {
-            first = Some(place);
+            first = Some(index);
             earliest = job.deadline;
         }
     }
@@ -104,9 +104,9 @@ fn most_urgent(jobs: &[Job], tick: u64) -> Option<usize> {
 fn is_served_in_time(jobs: &mut [Job], top: u16) -> bool {
     for tick in 0..8u64 {
         for _ in 0..top {
-            if let Some(place) = most_urgent(jobs, tick) {
-                if place < jobs.len() {
-                    jobs[place].work = jobs[place].work.saturating_sub(1);
+            if let Some(index) = most_urgent(jobs, tick) {
+                if index < jobs.len() {
+                    jobs[index].work = jobs[index].work.saturating_sub(1);
                 }
             }
         }

@@ -70,9 +70,9 @@ fn the_jobs_stand_by_deadline_then_ticket(rt: HostRuntime) {
     ];
     for order in [[0usize, 1, 2, 3, 4], [4, 3, 2, 1, 0], [2, 4, 0, 3, 1]] {
         let mut book = book_at(&rt, 0, 4);
-        for place in order {
-            assert!(rt; place < 5);
-            assert_eq!(rt; book.offer(sorted[place]), Ok(()));
+        for index in order {
+            assert!(rt; index < 5);
+            assert_eq!(rt; book.offer(sorted[index]), Ok(()));
         }
         check_left(&rt, &book, 0, 4, &sorted);
         assert_eq!(rt; book.strike(5), Ok(()));

@@ -30,7 +30,7 @@ pub(super) fn book_of(rt: &impl Abort, top: u16, jobs: &[Job]) -> Book {
     book
 }
 
-// An offer that is refused leaves the open jobs, now and the top.
+// The book has this now, this top and these open jobs.
 pub(super) fn check_left(rt: &impl Abort, book: &Book, now: u64, top: u8, jobs: &[Job]) {
     assert_eq!(rt; book.now(), now);
     assert_eq!(rt; book.top(), top);

@@ -58,9 +58,9 @@ fn read_by(fault: Result<(), ReadFault>) -> Result<(), BookFault> {
 #[test]
 fn a_fault_of_the_reader_passes_up_whole(rt: HostRuntime) {
     for fault in [
-        ReadFault::Cut { place: 48 },
-        ReadFault::UnknownKind { place: 24 },
-        ReadFault::Forbidden { place: 25 },
+        ReadFault::Cut { offset: 48 },
+        ReadFault::UnknownKind { offset: 24 },
+        ReadFault::Forbidden { offset: 25 },
     ] {
         assert_eq!(rt; read_by(Err(fault)), Err(BookFault::Read(fault)));
         assert_eq!(rt; Refusal::from(BookFault::Read(fault)), Refusal::from(fault));
@@ -80,7 +80,7 @@ fn each_fault_is_printed(rt: HostRuntime) -> Result<(), Fail> {
     assert_eq!(rt; text.as_str(), "8 0 256 65535");
     let read = format!(in rt.alloc();
         "{}",
-        Refusal::from(BookFault::Read(ReadFault::Cut { place: 48 }))
+        Refusal::from(BookFault::Read(ReadFault::Cut { offset: 48 }))
     )?;
     assert_eq!(rt; read.as_str(), "1 48");
     Ok(())

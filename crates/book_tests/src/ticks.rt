@@ -3,7 +3,7 @@ use super::samples::{LAST_TICK, book_at, book_of, check_left, job};
 use book::{Book, BookFault, Entry, Served};
 use std::process::Abort;
 
-// What stands in a place of the list that no entry takes.
+// What an element of the list holds that no entry is written into.
 const FREE: Entry = Entry {
     ticket: 65_535,
     units: 9,
@@ -23,7 +23,7 @@ fn check_settings(rt: &impl Abort, book: &Book, first: &[u8]) {
     assert!(rt; list.ends_with(&[9, 9, 9, 9]));
 }
 
-// A tick answers the setting and writes these entries; the places after them stay as they were.
+// A tick answers the setting and writes these entries; the elements after them stay as they were.
 fn check_tick(rt: &impl Abort, book: &mut Book, setting: u8, entries: &[Entry]) {
     let mut list = [FREE; 66];
     let count = entries.len();
