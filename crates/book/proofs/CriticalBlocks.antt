@@ -8,7 +8,7 @@ use Rattle.std.proofs.lemmas.List.Edits.{paste_more, paste_all}
 use Rattle.std.proofs.lemmas.List.Elements.{All-head, All-tail}
 use Rattle.schedule.specs.Demands.{Demand}
 use Rattle.schedule.specs.InForce.{horizon}
-use Rattle.schedule.specs.Blocks.{blocks, Block as Critical}
+use Rattle.schedule.specs.Blocks.{blocks, Block as TheoryBlock}
 use Rattle.schedule.specs.Theory.{Blocked}
 use Rattle.planner.specs.declared.blocks.RelativeBlock.{RelativeBlock}
 use Rattle.planner.specs.Blocks.{block_of, open_demands, critical_blocks}
@@ -29,7 +29,7 @@ open-demands now (j ∷ js) open_at =
     let some = here.work_left in
     grind (arith, nat_tests)
 
-block_in_time-told : (now : ℕ) (cs : List Critical) → map (block_in_time now) (map block_of cs) ≡ map (λ c. block_in_time now (block_of c)) cs
+block_in_time-told : (now : ℕ) (cs : List TheoryBlock) → map (block_in_time now) (map block_of cs) ≡ map (λ c. block_in_time now (block_of c)) cs
 block_in_time-told now [] = refl
 block_in_time-told now (c ∷ cs) = ap (λ bs. block_in_time now (block_of c) ∷ bs) (block_in_time-told now cs)
 

@@ -1,4 +1,4 @@
--- The laws of the cubes, and the entries of their table.
+-- The laws of the cubes, and the numbers of their table.
 use Rattle.std.specs.Prelude.{◌≡◌, ℕ, ◌-◌, ◌*◌, ◌≤◌, List, refl}
 use Rattle.std.proofs.Common.{ap, ◌∙◌, arith, mul-le-mul, mul-le-mul_left}
 use Rattle.std.proofs.lemmas.List.FromFn.{get_or-map-range_with_len}
@@ -8,9 +8,9 @@ use Rattle.power.specs.Breaks.{first_break}
 use Rattle.power.specs.BreakLaws.{lawful}
 use Rattle.power.specs.Cubes.{cube_table}
 
--- the entry of a setting is its cube
-pub entry : (t : List ℕ) → t ≡ cube_table → (s : ℕ) → s ≤ 255 → draw_at t s ≡ cube s
-entry t rule s h = ap (λ u. draw_at u s) rule ∙ get_or-map-range_with_len cube 0 256 s s 0 (omega arith) (omega arith)
+-- the number of the table at a setting is its cube
+pub cube_in_table : (t : List ℕ) → t ≡ cube_table → (s : ℕ) → s ≤ 255 → draw_at t s ≡ cube s
+cube_in_table t rule s h = ap (λ u. draw_at u s) rule ∙ get_or-map-range_with_len cube 0 256 s s 0 (omega arith) (omega arith)
 
 -- the cubes keep the laws: one test over all settings
 pub cubes_lawful : Lawful 255 cube
@@ -26,7 +26,7 @@ same_lawful last D E same laws = (
 
 -- so the table keeps them, by its rule
 pub table_lawful : (t : List ℕ) → t ≡ cube_table → Lawful 255 (draw_at t)
-table_lawful t rule = same_lawful 255 (draw_at t) cube (entry t rule) cubes_lawful
+table_lawful t rule = same_lawful 255 (draw_at t) cube (cube_in_table t rule) cubes_lawful
 
 pub cube_rising : (fixed factor : ℕ) → Rising 255 (cube_draw fixed factor)
 cube_rising p c s h k = omega (arith, mul-le-mul_left c (cubes_lawful.0 s h k))

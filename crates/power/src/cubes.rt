@@ -34,7 +34,7 @@ const CUBES: [u32; SETTING_VALUES] = [
     15813251, 16003008, 16194277, 16387064, 16581375,
 ];
 
-// The table, with its rule, that the entry s is the cube of s, and with its laws, that it never falls and is convex.
+// The table, with its rule, that its number s is the cube of s, and with its laws, that it never falls and is convex.
 // The check computes two tests over all settings: that the table is that of the cubes, and that the cubes keep the
 // laws.
 fn cubes() -> &'static [u32; SETTING_VALUES]
