@@ -6,7 +6,8 @@
 #include <stdlib.h>
 #include <string.h>
 
-/* How many samples there are, how often each job is offered, and how many ticks are served. Between offers the job is struck, and that counts too. */
+/* How many samples there are, how often each job is offered, and how many ticks are served. Between offers the job is
+   struck, and that counts too. */
 enum { SAMPLES = 10, OFFERS = 100, SERVED = 8 };
 
 #define NOW UINT64_C(1000000)
@@ -62,12 +63,12 @@ static void make_tick(size_t sample, const struct kind *kind) {
     make_book(&samples[sample], demands, kind, 0);
 }
 
-static struct timed_told proved_offer(const struct sample *it, uint32_t times) {
+static struct timed_answer proved_offer(const struct sample *it, uint32_t times) {
     const struct plain_job *job = &it->offered;
     return timed_offers(it->image, IMAGE_LEN, times, job->ticket, job->arrival, job->deadline, job->work);
 }
 
-static struct timed_told c_offer(const struct sample *it, uint32_t times) {
+static struct timed_answer c_offer(const struct sample *it, uint32_t times) {
     struct plain_book book = it->book;
     for (uint32_t i = 0; i < times; i++) {
         plain_offer(&book, it->offered);
@@ -76,14 +77,14 @@ static struct timed_told c_offer(const struct sample *it, uint32_t times) {
     return plain_offer(&book, it->offered);
 }
 
-static struct timed_told c_tick(const struct sample *it, uint32_t times, struct timed_share *shares) {
+static struct timed_answer c_tick(const struct sample *it, uint32_t times, struct timed_entry *entries) {
     struct plain_book book = it->book;
     for (uint32_t i = 0; i < times; i++) {
-        struct timed_share dropped[PLACES] = {{0, 0}};
+        struct timed_entry dropped[PLACES] = {{0, 0}};
         plain_tick(&book, dropped);
     }
-    memset(shares, 0, PLACES * sizeof *shares);
-    return plain_tick(&book, shares);
+    memset(entries, 0, PLACES * sizeof *entries);
+    return plain_tick(&book, entries);
 }
 
 static void proved_offers(size_t sample) {
@@ -95,16 +96,16 @@ static void c_offers(size_t sample) {
 }
 
 static void proved_ticks(size_t sample) {
-    struct timed_share shares[PLACES];
-    timed_ticks(samples[sample].image, IMAGE_LEN, SERVED - 1, shares);
+    struct timed_entry entries[PLACES];
+    timed_ticks(samples[sample].image, IMAGE_LEN, SERVED - 1, entries);
 }
 
 static void c_ticks(size_t sample) {
-    struct timed_share shares[PLACES];
-    c_tick(&samples[sample], SERVED - 1, shares);
+    struct timed_entry entries[PLACES];
+    c_tick(&samples[sample], SERVED - 1, entries);
 }
 
-static bool is_same(struct timed_told one, struct timed_told other) {
+static bool is_same(struct timed_answer one, struct timed_answer other) {
     return one.number == other.number && memcmp(one.values, other.values, sizeof one.values) == 0;
 }
 
@@ -116,7 +117,7 @@ static bool same_offers(size_t sample) {
 
 /* Each tick, by its setting and its entries. */
 static bool same_ticks(size_t sample) {
-    struct timed_share one[PLACES], other[PLACES];
+    struct timed_entry one[PLACES], other[PLACES];
     for (uint32_t times = 0; times < SERVED; times++) {
         if (!is_same(timed_ticks(samples[sample].image, IMAGE_LEN, times, one), c_tick(&samples[sample], times, other)))
             return false;
@@ -129,8 +130,10 @@ static bool same_ticks(size_t sample) {
 void compare_books(void) {
     static const struct contest offers = {"offer", SAMPLES, OFFERS, make_offer, proved_offers, c_offers, same_offers};
     static const struct contest ticks = {"tick", SAMPLES, SERVED, make_tick, proved_ticks, c_ticks, same_ticks};
-    static const struct kind offered[] = {{"by chance", 64, 4}, {"by chance", 64, 255}, {"begun", 64, 16}, {"overload", 64, 16}};
-    static const struct kind ticked[] = {{"by chance", 64, 4}, {"by chance", 64, 16}, {"by chance", 64, 255}, {"begun", 64, 16}};
+    static const struct kind offered[] = {
+        {"by chance", 64, 4}, {"by chance", 64, 255}, {"begun", 64, 16}, {"overload", 64, 16}};
+    static const struct kind ticked[] = {
+        {"by chance", 64, 4}, {"by chance", 64, 16}, {"by chance", 64, 255}, {"begun", 64, 16}};
     for (size_t i = 0; i < sizeof offered / sizeof offered[0]; i++)
         compare(&offers, &offered[i]);
     for (size_t i = 0; i < sizeof ticked / sizeof ticked[0]; i++)

@@ -45,7 +45,8 @@ static void c_blocks(size_t sample) {
 
 static bool same_settings(size_t sample) {
     struct planner_settings_list one, other;
-    if (planner_settings(samples[sample].demands, samples[sample].count, &one) != 0 || plain_settings(samples[sample].demands, samples[sample].count, &other) != 0)
+    if (planner_settings(samples[sample].demands, samples[sample].count, &one) != 0
+        || plain_settings(samples[sample].demands, samples[sample].count, &other) != 0)
         return false;
     return memcmp(&one, &other, sizeof one) == 0;
 }
@@ -56,7 +57,8 @@ static bool is_same(const struct planner_block *one, const struct planner_block 
 
 static bool same_blocks(size_t sample) {
     struct planner_block_list one, other;
-    if (planner_blocks(samples[sample].demands, samples[sample].count, &one) != 0 || plain_blocks(samples[sample].demands, samples[sample].count, &other) != 0)
+    if (planner_blocks(samples[sample].demands, samples[sample].count, &one) != 0
+        || plain_blocks(samples[sample].demands, samples[sample].count, &other) != 0)
         return false;
     if (one.count != other.count)
         return false;
@@ -69,9 +71,12 @@ static bool same_blocks(size_t sample) {
 void compare_planners(void) {
     static const struct contest settings = {"settings", SAMPLES, 1, make, proved_settings, c_settings, same_settings};
     static const struct contest blocks = {"blocks", SAMPLES, 1, make, proved_blocks, c_blocks, same_blocks};
-    static const struct kind plans[] = {{"by chance", 8, 4}, {"by chance", 8, 255}, {"by chance", 64, 4}, {"by chance", 64, 16}, {"by chance", 64, 255}, {"begun", 64, 16}};
+    static const struct kind plans[] = {
+        {"by chance", 8, 4}, {"by chance", 8, 255}, {"by chance", 64, 4},
+        {"by chance", 64, 16}, {"by chance", 64, 255}, {"begun", 64, 16}};
     /* With so little work many pairs have as much of it to a tick. */
-    static const struct kind rounds[] = {{"by chance", 8, 4}, {"nested", 8, 255}, {"by chance", 64, 4}, {"begun", 64, 4}, {"nested", 64, 255}};
+    static const struct kind rounds[] = {
+        {"by chance", 8, 4}, {"nested", 8, 255}, {"by chance", 64, 4}, {"begun", 64, 4}, {"nested", 64, 255}};
     for (size_t i = 0; i < sizeof plans / sizeof plans[0]; i++)
         compare(&settings, &plans[i]);
     for (size_t i = 0; i < sizeof rounds / sizeof rounds[0]; i++)

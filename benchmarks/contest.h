@@ -23,8 +23,8 @@ struct contest {
     bool (*agree)(size_t sample);
 };
 
-/* Prints the call, the kind, and the microseconds of a call by the proved way and by the plain one: the least of some rounds, or `differ` where the answers do.
-   Fields have a tab between them. */
+/* Prints the call, the kind, and the microseconds of a call by the proved way and by the plain one: the least of some
+   rounds, or `differ` where the answers do. Fields have a tab between them. */
 void compare(const struct contest *contest, const struct kind *kind);
 
 /* The contests. */

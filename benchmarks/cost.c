@@ -1,4 +1,5 @@
-/* What a call of the planner costs: how much stack it takes, and how its time grows. Link it with -z now, so that no function is bound on the stack that is measured. */
+/* What a call of the planner costs: how much stack it takes, and how its time grows. Link it with -z now, so that no
+   function is bound on the stack that is measured. */
 #define _POSIX_C_SOURCE 200112L
 #include "planner.h"
 #include "samples.h"
@@ -33,7 +34,8 @@ static void *call_blocks(void *unused) {
     return unused;
 }
 
-/* How many bytes below its caller a call writes to, in a thread of its own whose stack is painted before, or 0 where no thread starts. */
+/* How many bytes below its caller a call writes to, in a thread of its own whose stack is painted before, or 0 where
+   no thread starts. */
 static size_t stack_of(void *(*call)(void *)) {
     unsigned char *stack = NULL;
     pthread_attr_t attributes;
@@ -86,7 +88,8 @@ static void print_time(const char *what) {
     for (size_t i = 0; i < count; i++)
         units += demands[i].units;
     double time = time_of(call_settings);
-    printf("settings, %-12s %2zu demands, %7u units: %8.0f us, %4.0f ns a unit\n", what, count, units, time, time * 1000 / units);
+    printf("settings, %-12s %2zu demands, %7u units: %8.0f us, %4.0f ns a unit\n",
+           what, count, units, time, time * 1000 / units);
 }
 
 static void print_settings(void) {

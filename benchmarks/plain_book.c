@@ -1,5 +1,6 @@
-/* The book in plain C, by the same way as crates/book. An offer is checked, put into a copy of the table by deadline and ticket, and refused where an interval from a
-   start to an end of the windows has more work than fits. A tick plans the settings of all 256 ticks and serves the first, by earliest deadline, then least ticket. */
+/* The book in plain C, by the same way as crates/book. An offer is checked, put into a copy of the table by deadline
+   and ticket, and refused where an interval from a start to an end of the windows has more work than fits. A tick
+   plans the settings of all 256 ticks and serves the first, by earliest deadline, then least ticket. */
 #include "plain_book.h"
 #include "plain_planner.h"
 #include <stdbool.h>
@@ -9,10 +10,10 @@ enum { TICKS = PLANNER_TICKS };
 
 #define LAST_TICK ((UINT64_C(1) << 48) - 1)
 
-static const struct timed_told ACCEPTED;
+static const struct timed_answer ACCEPTED;
 
-static struct timed_told refused(uint32_t number, uint64_t value) {
-    return (struct timed_told){number, {value, 0, 0}};
+static struct timed_answer refused(uint32_t number, uint64_t value) {
+    return (struct timed_answer){number, {value, 0, 0}};
 }
 
 /* Why the job's fields are refused: the number of the first that has a value it can't have, or 0. */
@@ -36,7 +37,7 @@ static size_t index_of(const struct plain_table *table, uint16_t ticket) {
     return index;
 }
 
-static struct timed_told check(const struct plain_book *book, const struct plain_job *job) {
+static struct timed_answer check(const struct plain_book *book, const struct plain_job *job) {
     unsigned field = wrong_field(job, book->now);
     if (field != 0)
         return refused(5, field);
@@ -71,7 +72,8 @@ static uint64_t ticks_from(uint64_t now, uint64_t tick) {
 static void make_demands(const struct plain_table *table, uint64_t now, struct planner_demand *demands) {
     for (size_t i = 0; i < table->count; i++) {
         const struct plain_job *job = &table->jobs[i];
-        demands[i] = (struct planner_demand){(uint16_t)ticks_from(now, job->arrival), (uint16_t)ticks_from(now, job->deadline), job->work};
+        demands[i] = (struct planner_demand){
+            (uint16_t)ticks_from(now, job->arrival), (uint16_t)ticks_from(now, job->deadline), job->work};
     }
 }
 
@@ -82,7 +84,8 @@ static bool starts_at(const struct planner_demand *demands, size_t count, uint16
     return false;
 }
 
-/* The end of the first overloaded interval from this start, or 0. The demands come by deadline: what is added up lies inside the interval to the demand's end. */
+/* The end of the first overloaded interval from this start, or 0. The demands come by deadline: what is added up lies
+   inside the interval to the demand's end. */
 static uint16_t overloaded_end(const struct planner_demand *demands, size_t count, uint16_t start, uint8_t top) {
     uint32_t work = 0;
     for (size_t i = 0; i < count; i++) {
@@ -96,7 +99,7 @@ static uint16_t overloaded_end(const struct planner_demand *demands, size_t coun
 }
 
 /* The refusal for the overloaded interval with the least start and, among those, the least end. */
-static struct timed_told overload(const struct plain_table *table, uint64_t now, uint8_t top) {
+static struct timed_answer overload(const struct plain_table *table, uint64_t now, uint8_t top) {
     struct planner_demand demands[PLACES];
     make_demands(table, now, demands);
     for (uint16_t start = 0; start < TICKS; start++) {
@@ -104,23 +107,24 @@ static struct timed_told overload(const struct plain_table *table, uint64_t now,
             continue;
         uint16_t end = overloaded_end(demands, table->count, start, top);
         if (end != 0)
-            return (struct timed_told){8, {now + start, now + end, plain_work_inside(demands, table->count, start, end)}};
+            return (struct timed_answer){
+                8, {now + start, now + end, plain_work_inside(demands, table->count, start, end)}};
     }
     return ACCEPTED;
 }
 
-struct timed_told plain_offer(struct plain_book *book, struct plain_job job) {
-    struct timed_told told = check(book, &job);
-    if (told.number != 0)
-        return told;
+struct timed_answer plain_offer(struct plain_book *book, struct plain_job job) {
+    struct timed_answer answer = check(book, &job);
+    if (answer.number != 0)
+        return answer;
     struct plain_table table = with_job(&book->table, &job);
-    told = overload(&table, book->now, book->top);
-    if (told.number == 0)
+    answer = overload(&table, book->now, book->top);
+    if (answer.number == 0)
         book->table = table;
-    return told;
+    return answer;
 }
 
-struct timed_told plain_strike(struct plain_book *book, uint16_t ticket) {
+struct timed_answer plain_strike(struct plain_book *book, uint16_t ticket) {
     struct plain_table *table = &book->table;
     size_t index = index_of(table, ticket);
     if (index == table->count)
@@ -185,8 +189,8 @@ static void make_ready(struct ready_queue *queue, const struct plain_table *tabl
     }
 }
 
-/* Serves the ready jobs until the setting is used up, and answers how many shares it wrote. */
-static size_t serve(struct plain_table *table, uint64_t now, uint8_t setting, struct timed_share *shares) {
+/* Serves the ready jobs until the setting is used up, and answers how many entries it wrote. */
+static size_t serve(struct plain_table *table, uint64_t now, uint8_t setting, struct timed_entry *entries) {
     struct ready_queue queue;
     size_t count = 0;
     unsigned left = setting;
@@ -195,7 +199,7 @@ static size_t serve(struct plain_table *table, uint64_t now, uint8_t setting, st
         struct plain_job *job = &table->jobs[take(&queue).index];
         unsigned units = job->work < left ? job->work : left;
         job->work = (uint16_t)(job->work - units);
-        shares[count++] = (struct timed_share){job->ticket, (uint16_t)units};
+        entries[count++] = (struct timed_entry){job->ticket, (uint16_t)units};
         left -= units;
     }
     return count;
@@ -219,15 +223,15 @@ static void make_settings(const struct plain_book *book, uint8_t *bytes) {
         bytes[tick] = (uint8_t)list.settings[tick];
 }
 
-struct timed_told plain_tick(struct plain_book *book, struct timed_share *shares) {
+struct timed_answer plain_tick(struct plain_book *book, struct timed_entry *entries) {
     uint8_t settings[TICKS];
     if (book->now == LAST_TICK)
         return refused(11, book->now);
     make_settings(book, settings);
-    size_t count = serve(&book->table, book->now, settings[0], shares);
+    size_t count = serve(&book->table, book->now, settings[0], entries);
     close_done(&book->table);
     book->now++;
-    return (struct timed_told){0, {settings[0], count, 0}};
+    return (struct timed_answer){0, {settings[0], count, 0}};
 }
 
 /* The number in so many bytes, the high byte first. */

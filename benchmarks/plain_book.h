@@ -24,13 +24,13 @@ struct plain_book {
 };
 
 /* Adds the job to the open ones, or refuses it and leaves the book. */
-struct timed_told plain_offer(struct plain_book *book, struct plain_job job);
+struct timed_answer plain_offer(struct plain_book *book, struct plain_job job);
 
 /* Closes the open job with the ticket, or refuses that. */
-struct timed_told plain_strike(struct plain_book *book, uint16_t ticket);
+struct timed_answer plain_strike(struct plain_book *book, uint16_t ticket);
 
-/* Serves a tick, with a share for each job that gets units, and answers the setting and how many shares there are. */
-struct timed_told plain_tick(struct plain_book *book, struct timed_share *shares);
+/* Serves a tick, with an entry for each job that gets units, and answers the setting and how many entries there are. */
+struct timed_answer plain_tick(struct plain_book *book, struct timed_entry *entries);
 
 /* Writes the image of the book. */
 void plain_save(const struct plain_book *book, uint8_t image[IMAGE_LEN]);

@@ -1,5 +1,6 @@
-/* The planner in plain C, by the same way as crates/planner. Settings: unit by unit in order of deadline, each at the tick of its hull with the fewest units.
-   Critical blocks: in rounds, each by the pair of compressed times with the greatest work over length. */
+/* The planner in plain C, by the same way as crates/planner. Settings: unit by unit in order of deadline, each at the
+   tick of its hull with the fewest units. Critical blocks: in rounds, each by the pair of compressed times with the
+   greatest work over length. */
 #include "plain_planner.h"
 #include <stdbool.h>
 #include <string.h>
@@ -18,7 +19,8 @@ struct tick_queue {
     struct planned_tick slots[TICKS];
 };
 
-/* The units of each tick, and the slack at each, by which the units allocated from it on exceed those of the windows that start there or later. */
+/* The units of each tick, and the slack at each, by which the units allocated from it on exceed those of the windows
+   that start there or later. */
 struct plan {
     uint32_t units[TICKS];
     uint32_t slack[TICKS];

@@ -1,10 +1,10 @@
 #!/usr/bin/env bash
-# Times the proved planner and the proved book beside the same in plain C: settings, critical blocks, offers to a full book and its ticks.
-# Prints the compilers, then a line for each call and kind of book. Fails where an answer differs, or where a proved call takes more than
-# 1.5 times as long as the plain one.
+# Times the proved planner and the proved book beside the same in plain C: settings, critical blocks, offers to a full
+# book and its ticks. Prints the compilers, then a line for each call and kind of book. Fails where an answer differs,
+# or where a proved call takes more than 1.5 times as long as the plain one.
 #
-# Both sides are compiled by the toolchain's own clang, at the level and for the processor that `rt lib` takes. CC names another compiler
-# for the plain C, and CFLAGS other flags.
+# Both sides are compiled by the toolchain's own clang, at the level and for the processor that `rt lib` takes. CC
+# names another compiler for the plain C, and CFLAGS other flags.
 set -euo pipefail
 cd "$(dirname "$0")"
 kit=$(dirname "$(dirname "$(readlink -f "$(command -v rt)")")")
@@ -31,7 +31,8 @@ for file in contest compare_planner compare_book samples plain_planner plain_boo
     "$compiler" -std=c11 "${flags[@]}" -Wall -Wextra -Werror "${headers[@]}" -I../c -c "$file.c" -o "$out/$file.o"
     objects+=("$out/$file.o")
 done
-# A loop's speed depends on where the linker puts it: the second program has all code 16 bytes further on, and the lesser time of both counts.
+# A loop's speed depends on where the linker puts it: the second program has all code 16 bytes further on, and the
+# lesser time of both counts.
 echo '__asm__(".text\n.skip 16, 0x90");' | cc -x c -c - -o "$out/shift.o"
 libraries=(../crates/planner_c/out/libplanner_c.a ../crates/timed_book/out/libtimed_book.a)
 cc "${objects[@]}" "${libraries[@]}" -o "$out/compare"
@@ -40,6 +41,7 @@ cc "$out/shift.o" "${objects[@]}" "${libraries[@]}" -o "$out/compare-shifted"
 version() { "$1" --version | head -n 1; }
 echo "proved: rt lib, $(version "$own"), $level, $cpu"
 echo "plain:  $(basename "$compiler"), $(version "$compiler"), ${flags[*]}"
-echo "times:  the least of 10 rounds in each of two programs, whose code the linker puts 16 bytes apart; each side's least counts"
+echo "times:  the least of 10 rounds in each of two programs, whose code the linker puts 16 bytes apart;" \
+    "each side's least counts"
 echo
 { "$out/compare"; "$out/compare-shifted"; } | awk -F '\t' -f table.awk

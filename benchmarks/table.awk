@@ -1,4 +1,5 @@
-# Makes the table of the lines that `compare` prints, by the lesser times where a call and its kind stand more than once.
+# Makes the table of the lines that `compare` prints. Where a call and its kind stand more than once, the lesser times
+# count.
 BEGIN { most = 1.5 }
 
 { key = $1 FS $2 FS $3 FS $4 }
@@ -27,6 +28,7 @@ END {
         if (ratio > greatest) greatest = ratio
         printf "%12.2f %12.2f %7.2f\n", proved[key], plain[key], ratio
     }
-    printf "\nall answers are the same: %s; greatest ratio %.2f, at most %.2f passes\n", failed ? "no" : "yes", greatest, most
+    printf "\nall answers are the same: %s; greatest ratio %.2f, at most %.2f passes\n",
+        failed ? "no" : "yes", greatest, most
     exit failed || count == 0 || greatest > most
 }

@@ -1,5 +1,6 @@
 #!/usr/bin/env bash
-# c/planner.h stands alone: it compiles as C11 and as C++17 without a warning, also twice in one file, and a program in either language links with the library where that is built.
+# c/planner.h stands alone: it compiles as C11 and as C++17 without a warning, also twice in one file, and a program in
+# either language links with the library where that is built.
 # CC and CXX name other compilers.
 set -euo pipefail
 cd "$(dirname "$0")/.."
@@ -13,7 +14,8 @@ echo '#include "planner.h"' >"$out/alone.c"
 "${c[@]}" -ffreestanding -c "$out/alone.c" -o "$out/alone.o"
 "${cpp[@]}" -x c++ -c "$out/alone.c" -o "$out/alone.o"
 
-# The demands [0, 2) of 3 units and [0, 3) of 1: settings 2, 1, 1, and blocks of speed 3/2 and 1/1. Then a list out of order, and 65 demands.
+# The demands [0, 2) of 3 units and [0, 3) of 1: settings 2, 1, 1, and blocks of speed 3/2 and 1/1. Then a list out of
+# order, and 65 demands.
 cat >"$out/calls.c" <<'END'
 #include "planner.h"
 #include "planner.h"

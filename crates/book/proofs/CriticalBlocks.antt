@@ -18,7 +18,7 @@ use Rattle.book.specs.Demands.{demands}
 use Rattle.book.specs.Book.{View, IsOpenAt}
 use Rattle.book.specs.Blocks.{block_in_time, book_blocks, blocks_outcome}
 use Rattle.book.specs.Lists.{list_with}
-use Rattle.book.specs.Outcomes.{accepted}
+use Rattle.book.specs.Outcomes.{accepted_outcome}
 
 -- all open jobs have work left
 open-demands : (now : ℕ) (js : List Job) → All (IsOpenAt now) js → open_demands (demands now js) ≡ demands now js
@@ -59,9 +59,9 @@ module _ (now : ℕ) (items : List RelativeBlock) (list : List CriticalBlock) (r
       let size = length-map items (block_in_time now) in
       paste_all list 0 (map (block_in_time now) items) i (omega (arith, size)) ∙ ap (λ k. map (block_in_time now) items ++ drop k list) (omega arith)
 
--- a list with enough places is not refused
+-- a list with enough elements is not refused
 module _ (b : View) (list : List CriticalBlock) (room : 64 ≤ length list) where
-  blocked_none : blocks_outcome b list ≡ accepted (length (book_blocks b)) b (list_with (book_blocks b) list)
+  blocked_none : blocks_outcome b list ≡ accepted_outcome (length (book_blocks b)) b (list_with (book_blocks b) list)
   blocked_none = let enough : ltb (length list) 64 ≡ false = grind (arith, nat_tests) in rw enough refl
 
   -- the planner's blocks are written

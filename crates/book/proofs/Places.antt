@@ -1,4 +1,4 @@
--- Elements in the first elements of a table, after a shift by one place.
+-- What the first elements of a table are, once an element was added or removed and those after it were shifted by one.
 use Rattle.std.proofs.Common.{◌≡◌, ℕ, suc, ◌+◌, ◌-◌, ◌<◌, ◌≤◌, List, [], ◌∷◌, ◌++◌, length, take, drop, set, sym, ap, arith, ◌∙◌, append_assoc}
 use Rattle.std.proofs.Math.Seq.{take-set-lt}
 use Rattle.std.specs.List.{copy_within, insert, remove}

@@ -1,4 +1,4 @@
--- WhileServing the ready jobs of a tick, one after the other.
+-- Serving the ready jobs of a tick, one after the other.
 use Rattle.std.proofs.Common.{◌≡◌, ℕ, suc, ◌+◌, ◌-◌, ◌<◌, ◌≤◌, min, true, false, nat_le, nat_lt, inl, inr, List, [], ◌∷◌, ◌++◌, ◌∙◌, length, map, take, drop, get_or, set, refl, sym, ap, subst, arith, append_assoc}
 use Rattle.std.specs.List.{All}
 use Rattle.std.specs.List.Sorted.{IsPermutation}

@@ -90,7 +90,7 @@ open_after now u (j ∷ js) all due =
 law : (b : View) → IsLawful b → Ticked (demands b.now b.jobs)
 law b h = theory.serving.ticked (demands b.now b.jobs) (sorted-demands b.now b.jobs h.well_formed.in_order) (sound-demands horizon b.now b.jobs theory.ticks h.well_formed.jobs_open)
 
--- what a share adds to the units of the entries
+-- what a grant adds to the units of the entries
 entry_units : (j : Job) (g : ℕ) (ss : List (Job × ℕ)) → sum_by (λ e. e.units) (entries_of ((j, g) ∷ ss)) ≡ g + sum_by (λ e. e.units) (entries_of ss)
 entry_units j zero ss = omega arith
 entry_units j (suc g) ss = let t : nat_lt 0 (suc g) ≡ true = grind (arith, nat_tests) in rw t (sum_by-cons (λ (e : Entry). e.units) (entry_of (j, suc g)) (entries_of ss))

@@ -9,7 +9,7 @@ use Rattle.book.specs.declared.fault.BookFault.{BookFault}
 use Rattle.book.specs.Demands.{demands}
 use Rattle.book.specs.Book.{View}
 use Rattle.book.specs.Lists.{list_with, short_fault}
-use Rattle.book.specs.Outcomes.{Outcome, accepted, outcome}
+use Rattle.book.specs.Outcomes.{Outcome, accepted_outcome, outcome}
 
 -- a block of the planner, whose ticks count from now, in ticks of time
 abbrev pub block_in_time : ℕ → RelativeBlock → CriticalBlock
@@ -23,4 +23,4 @@ book_blocks b = map (λ c. block_in_time b.now (block_of c)) (blocks horizon (de
 abbrev pub blocks_outcome : View → List CriticalBlock → Outcome ℕ BookFault (List CriticalBlock)
 blocks_outcome b list =
     let found = book_blocks b in
-    outcome (short_fault 64 list) b list (accepted (length found) b (list_with found list))
+    outcome (short_fault 64 list) b list (accepted_outcome (length found) b (list_with found list))

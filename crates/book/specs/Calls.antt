@@ -12,13 +12,13 @@ use Rattle.book.specs.declared.fault.BookField.{BookField}
 use Rattle.book.specs.declared.fault.BookField.TheVariants.{Ticket, Arrival, Deadline, Work, Start, Top}
 use Rattle.book.specs.Jobs.{is_ticket_open, jobs_with, jobs_without}
 use Rattle.book.specs.Demands.{demands}
-use Rattle.book.specs.Outcomes.{Outcome, accepted, outcome}
+use Rattle.book.specs.Outcomes.{Outcome, accepted_outcome, outcome}
 use Rattle.book.specs.Book.{View, empty_book, book_with_jobs}
 use Rattle.layout.specs.Jobs.{last_tick}
 
 -- the outcome of a call that brings no list and answers nothing but that it is done, where it leaves the book `after`
 abbrev pub plain_outcome : Option BookFault → (before after : View) → Outcome (Unit {0}) BookFault (Unit {0})
-plain_outcome fault before after = outcome fault before tt (accepted tt after tt)
+plain_outcome fault before after = outcome fault before tt (accepted_outcome tt after tt)
 
 -- why a book is not opened
 abbrev pub open_fault : (start top : ℕ) → Option BookFault

@@ -12,7 +12,7 @@ use Rattle.book.specs.declared.fault.BookFault.TheVariants.{Image}
 use Rattle.book.specs.Jobs.{is_before, is_ticket_open}
 use Rattle.book.specs.Book.{View}
 use Rattle.book.specs.Lists.{short_fault}
-use Rattle.book.specs.Outcomes.{Outcome, accepted, outcome}
+use Rattle.book.specs.Outcomes.{Outcome, accepted_outcome, outcome}
 use Rattle.book.specs.Calls.{plain_outcome, first_overload_of}
 
 -- the record of now and the top: now stands where a job has its arrival (bytes 4 to 9), and the top where it has its
@@ -39,7 +39,7 @@ image b = flat_map (λ r. r) (image_records b)
 
 -- save writes the image into the first elements of the list
 abbrev pub save_outcome : View → List ℕ → Outcome (Unit {0}) BookFault (List ℕ)
-save_outcome b list = outcome (short_fault 1560 list) b list (accepted tt b (image b ++ drop 1560 list))
+save_outcome b list = outcome (short_fault 1560 list) b list (accepted_outcome tt b (image b ++ drop 1560 list))
 
 -- the record k of a list
 abbrev pub record_in : List ℕ → ℕ → List ℕ

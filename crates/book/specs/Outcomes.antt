@@ -10,8 +10,8 @@ pub record Outcome (Answer Fault Brought : Type 0) : Type 0 where
   pub list : Brought
 
 -- a call that is not refused: its answer, the book and the list
-abbrev pub accepted : {A F L : Type 0} → A → View → L → Outcome A F L
-accepted answer book list = record { answer = Ok answer; book = book; list = list }
+abbrev pub accepted_outcome : {A F L : Type 0} → A → View → L → Outcome A F L
+accepted_outcome answer book list = record { answer = Ok answer; book = book; list = list }
 
 -- a call is refused with its fault, where there is one, and leaves the book and the list as they were; else this is
 -- its outcome

@@ -3,7 +3,7 @@ use Rattle.std.specs.Prelude.{ℕ}
 use Rattle.refusal.specs.declared.Layer.TheVariants.{Book}
 use Rattle.refusal.specs.declared.Values.TheVariants.{Three}
 use Rattle.refusal.specs.declared.Refusal.{Refusal}
-use Rattle.refusal.specs.Told.{refusal_with}
+use Rattle.refusal.specs.Refusals.{refusal_with}
 use Rattle.layout.specs.Refusals.{read_refusal}
 use Rattle.book.specs.declared.fault.BookFault.{BookFault}
 use Rattle.book.specs.declared.fault.BookFault.TheVariants.{Read, Field, TicketOpen, Full, Overload, NotOpen}

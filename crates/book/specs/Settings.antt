@@ -6,7 +6,7 @@ use Rattle.book.specs.declared.fault.BookFault.{BookFault}
 use Rattle.book.specs.Demands.{demands}
 use Rattle.book.specs.Book.{View}
 use Rattle.book.specs.Lists.{short_fault}
-use Rattle.book.specs.Outcomes.{Outcome, accepted, outcome}
+use Rattle.book.specs.Outcomes.{Outcome, accepted_outcome, outcome}
 
 -- the settings in force of a book
 abbrev pub settings_of : View → ℕ → ℕ
@@ -18,4 +18,4 @@ list_with_settings b list = map (settings_of b) (range_with_len 0 horizon) ++ dr
 
 -- settings writes the settings in force into the first elements of the list
 abbrev pub settings_outcome : View → List ℕ → Outcome (Unit {0}) BookFault (List ℕ)
-settings_outcome b list = outcome (short_fault 256 list) b list (accepted tt b (list_with_settings b list))
+settings_outcome b list = outcome (short_fault 256 list) b list (accepted_outcome tt b (list_with_settings b list))

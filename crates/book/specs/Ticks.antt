@@ -1,5 +1,5 @@
 -- What the call tick answers, the book that it leaves, and what its list holds afterwards.
-use Rattle.std.specs.Prelude.{◌≡◌, ℕ, ◌+◌, Bool, if◌then◌else◌, List, length, map, take, sum_by, Some, None}
+use Rattle.std.specs.Prelude.{◌≡◌, ℕ, ◌+◌, Bool, if◌then◌else◌, List, length, map, take, replicate, sum_by, Some, None}
 use Rattle.std.specs.Prelude.{Ok, Err, Option, Result, ◌==◌, nat_lt}
 use Rattle.std.specs.Option.{option_or}
 use Rattle.std.specs.List.{filter, zip}
@@ -13,8 +13,12 @@ use Rattle.book.specs.declared.tick.Served.{Served}
 use Rattle.book.specs.Demands.{demands}
 use Rattle.book.specs.Book.{View}
 use Rattle.book.specs.Lists.{list_with, short_fault}
-use Rattle.book.specs.Outcomes.{Outcome, accepted, outcome}
+use Rattle.book.specs.Outcomes.{Outcome, accepted_outcome, outcome}
 use Rattle.book.specs.Settings.{settings_of}
+
+-- a list for the entries of a tick, in which none is written yet
+abbrev pub no_entries : List Entry
+no_entries = replicate 64 (record { ticket = 0; units = 0 })
 
 -- each job with what it gets of u units at now, in the order of serving
 abbrev pub grants : ℕ → ℕ → List Job → List (Job × ℕ)
@@ -35,7 +39,7 @@ entries_of ss = map entry_of (filter (λ s. nat_lt 0 s.1) ss)
 abbrev pub has_work : Job → Bool
 has_work j = nat_lt 0 j.work
 
--- the shares of the tick at now, which serves the first setting in force
+-- the grants of the tick at now, which serves the first setting in force
 abbrev pub grants_of : View → List (Job × ℕ)
 grants_of b = grants b.now (settings_of b 0) b.jobs
 
@@ -54,7 +58,7 @@ abbrev pub tick_outcome : View → List Entry → Outcome Served BookFault (List
 tick_outcome b list =
     let es = entries_of (grants_of b) in
     let served : Served = record { setting = settings_of b 0; count = length es } in
-    outcome (tick_fault b list) b list (accepted served (book_after_tick b) (list_with es list))
+    outcome (tick_fault b list) b list (accepted_outcome served (book_after_tick b) (list_with es list))
 
 -- the units of the entries that a served tick wrote add up to its setting
 abbrev pub GivesSetting : Result Served BookFault → List Entry → Type 0

@@ -23,6 +23,7 @@ impl Book {
     /// unit. It never refuses.
     ///
     /// ```text
+    /// // book_tests: examples::of_bill
     /// // Settings 2, 1 and then 0, where a setting draws its cube: 8 + 1 = 9.
     /// book.bill(&Cube::new(0, 1)?)
     /// ```

@@ -61,6 +61,7 @@ impl Book {
     /// - [`BookFault::Short`]: the list has fewer than 64 elements.
     ///
     /// ```text
+    /// // book_tests: examples::of_blocks
     /// // One block, of 3 units in the ticks 0 and 1: CriticalBlock { speed: (3, 2), start: 0, end: 2 }.
     /// let mut blocks = [CriticalBlock::default(); PLACES];
     /// let count = book.blocks(&mut blocks)?;

@@ -37,6 +37,12 @@ impl Book {
     ghost use Rattle.book.specs.Offers.{OnlyOverload};
 
     /// An empty book, with now 0 and top 1.
+    ///
+    /// ```text
+    /// // book_tests: examples::of_what_a_book_has
+    /// let mut book = Book::new();
+    /// book.open(0, 4)?; // now 0, top 4
+    /// ```
     pub fn new() -> Book
         ensures { result ≡ empty_book 0 1 }
     {
@@ -47,14 +53,26 @@ impl Book {
         }
     }
 
-    /// The current tick.
+    /// Now: the tick that comes next, 0 in a new book.
+    ///
+    /// ```text
+    /// // book_tests: examples::of_what_a_book_has
+    /// book.open(5, 4)?;
+    /// book.now() // 5
+    /// ```
     pub fn now(&self) -> u64
         ensures { result ≡ self.now.now }
     {
         self.tick
     }
 
-    /// The greatest setting.
+    /// The top: the greatest setting, in units of work in a tick.
+    ///
+    /// ```text
+    /// // book_tests: examples::of_what_a_book_has
+    /// book.open(5, 4)?;
+    /// book.top() // 4
+    /// ```
     pub fn top(&self) -> u8
         ensures { result ≡ self.now.top }
     {
@@ -62,6 +80,14 @@ impl Book {
     }
 
     /// The open jobs, with their work left, by deadline, then ticket.
+    ///
+    /// ```text
+    /// // book_tests: examples::of_what_a_book_has
+    /// book.open(5, 4)?;
+    /// book.offer(Job { ticket: 7, arrival: 5, deadline: 7, work: 3 })?;
+    /// book.offer(Job { ticket: 9, arrival: 5, deadline: 6, work: 2 })?;
+    /// book.jobs() // the job with ticket 9, then the one with ticket 7
+    /// ```
     pub fn jobs(&self) -> &[Job]
         ensures jobs { result.now ≡ self.now.jobs }
         ensures lawful { IsLawful self.now }
@@ -76,10 +102,10 @@ impl Book {
     /// The book is as it was then.
     ///
     /// - [`BookFault::Field`]: of the start, where it is after the last tick, 2^48 - 1; then of the top, where it is
-    ///   not 1 to
-    ///   255.
+    ///   not 1 to 255.
     ///
     /// ```text
+    /// // book_tests: examples::of_open
     /// book.open(0, 4)?;
     /// let answer = book.open(0, 256); // Err(BookFault::Field(BookField::Top))
     /// ```
@@ -108,6 +134,7 @@ impl Book {
     /// - [`BookFault::NotOpen`]: no open job has the ticket.
     ///
     /// ```text
+    /// // book_tests: examples::of_strike
     /// book.strike(7)?;
     /// let answer = book.strike(7); // Err(BookFault::NotOpen { ticket: 7 })
     /// ```
@@ -144,14 +171,15 @@ impl Book {
     /// In this order; the book is as it was then.
     ///
     /// - [`BookFault::Field`]: of the ticket, where it is 0; of the arrival, where it is before now; of the deadline,
-    ///   where it
-    ///   is not after the arrival, more than 256 ticks from now or after the last tick; of the work, where it is 0.
+    ///   where it is not after the arrival, more than 256 ticks from now or after the last tick; of the work, where it
+    ///   is 0.
     /// - [`BookFault::TicketOpen`]: an open job has the ticket.
     /// - [`BookFault::Full`]: 64 jobs are open.
     /// - [`BookFault::Overload`]: with the job an interval is overloaded, so that no settings up to the top could do
     ///   all work.
     ///
     /// ```text
+    /// // book_tests: examples::of_offer
     /// book.offer(Job { ticket: 7, arrival: 0, deadline: 2, work: 3 })?;
     /// // With a top of 4: Err(BookFault::Overload { start: 0, end: 2, work: 9 })
     /// let answer = book.offer(Job { ticket: 9, arrival: 0, deadline: 2, work: 6 });

@@ -6,14 +6,20 @@ ghost use Rattle.book.specs.Refusals.{book_refusal};
 use layout::ReadFault;
 use refusal::{Layer, Refusal, Values};
 
-/// The fields that the book checks, by their numbers.
+/// The fields that the book checks, by the numbers that a refusal tells them by.
 #[derive(Clone, Copy, PartialEq, Eq, Debug)]
 pub enum BookField {
+    /// The ticket of an offered job: 1 to 65535.
     Ticket = 1,
+    /// The arrival of an offered job, a tick: not before now.
     Arrival = 2,
+    /// The deadline of an offered job, a tick: after the arrival, at most 256 ticks from now.
     Deadline = 3,
+    /// The work of an offered job, in units: 1 or more.
     Work = 4,
+    /// The tick that a book starts at: at most the last of all.
     Start = 5,
+    /// The top of a book, in units in a tick: 1 to 255.
     Top = 6,
 }
 
@@ -26,13 +32,14 @@ pub enum BookFault {
     Field(BookField),
     /// A job with the ticket is open.
     TicketOpen { ticket: u16 },
-    /// Every place is taken; so many there are.
+    /// Every place is taken; there are so many, 64.
     Full { places: usize },
-    /// The interval from start to end is overloaded by the work inside, the offered job counted as open.
+    /// The interval from the tick start to the tick end is overloaded: so many units of work lie inside, with those of
+    /// the offered job, and that is more than the top times its ticks.
     Overload { start: u64, end: u64, work: u32 },
     /// No open job has the ticket.
     NotOpen { ticket: u16 },
-    /// The list has fewer elements than are needed.
+    /// The list has fewer elements than the call needs.
     Short { needed: usize },
     /// Now is the last tick of all.
     LastTick { now: u64 },

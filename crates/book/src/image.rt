@@ -28,13 +28,13 @@ pub(super) const BLANK: [u8; RECORD_LEN] = [0; RECORD_LEN];
 pub(super) fn clock_record(now: u64, top: u8) -> [u8; RECORD_LEN]
     ensures { result ≡ clock_record now top }
 {
-    let numbers = Job {
+    let clock = Job {
         ticket: 0,
         arrival: now,
         deadline: 0,
         work: u16::from(top),
     };
-    numbers.to_record(CLOCK, &[0; LABEL_LEN])
+    clock.to_record(CLOCK, &[0; LABEL_LEN])
 }
 
 // The record of the open job.
@@ -69,6 +69,7 @@ impl Book {
     /// - [`BookFault::Short`]: the list has fewer than 1560 elements.
     ///
     /// ```text
+    /// // book_tests: examples::of_save
     /// let mut image = [0; IMAGE_LEN];
     /// book.save(&mut image)?;
     /// other.load(&image)?; // other is a book like this one now

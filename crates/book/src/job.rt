@@ -9,7 +9,7 @@ ghost use Rattle.book.specs.Calls.{field_fault};
 use super::fault::BookField;
 use layout::{Job, LAST_TICK};
 
-/// How many ticks from now the book looks at, as a number of ticks.
+// `HORIZON` as a number of 64 bits, as ticks of time are.
 pub(super) const HORIZON_TICKS: u64 = planner::HORIZON as u64;
 
 // Whether the first job is served before the other: it has the earlier deadline, or the same and the lesser ticket.

@@ -2,6 +2,7 @@
 //! settings in force, bill them, write the critical blocks, save an image of the book and load one, and serve a tick.
 //!
 //! ```text
+//! // book_tests: examples::of_settings_and_a_tick
 //! let mut book = Book::new();
 //! book.open(0, 4)?;
 //! book.offer(Job { ticket: 7, arrival: 0, deadline: 2, work: 3 })?;
@@ -31,7 +32,7 @@ pub use blocks::CriticalBlock;
 pub use book::Book;
 pub use fault::{BookFault, BookField};
 pub use image::IMAGE_LEN;
-pub use layout::{Job, LAST_TICK};
+pub use layout::{Job, LAST_TICK, RECORD_LEN};
 pub use planner::HORIZON;
 pub use table::PLACES;
 pub use tick::{Entry, Served};

@@ -19,9 +19,9 @@ use layout::{Job, LAST_TICK, RECORD_LEN};
 fn read_clock(bytes: &[u8; RECORD_LEN]) -> Option<(u64, u8)>
     ensures { result ≡ (if is_clock bytes.now then Some (now_in bytes.now, top_in bytes.now) else None) }
 {
-    let numbers = Job::of_record(bytes);
-    let now = numbers.arrival;
-    let top = u8::try_from(numbers.work).ok()?;
+    let clock = Job::of_record(bytes);
+    let now = clock.arrival;
+    let top = u8::try_from(clock.work).ok()?;
     if top == 0 || *bytes != clock_record(now, top) {
         return None;
     }
@@ -128,6 +128,7 @@ impl Book {
     ///   can stand, but an interval is overloaded.
     ///
     /// ```text
+    /// // book_tests: examples::of_load
     /// let image = [0; IMAGE_LEN];
     /// // Record 0 is that of no now and top: Err(BookFault::Image { number: 0 }).
     /// let answer = book.load(&image);

@@ -52,6 +52,7 @@ impl Book {
     /// - [`BookFault::Short`]: the list has fewer than 256 elements.
     ///
     /// ```text
+    /// // book_tests: examples::of_settings_and_a_tick
     /// let mut settings = [0; HORIZON];
     /// book.settings(&mut settings)?; // 2, 1, and then 0
     /// ```

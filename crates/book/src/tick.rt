@@ -92,6 +92,7 @@ impl Book {
     /// - [`BookFault::LastTick`]: now is the last tick of all, 2^48 - 1.
     ///
     /// ```text
+    /// // book_tests: examples::of_settings_and_a_tick
     /// let mut entries = [Entry::default(); PLACES];
     /// // Served { setting: 2, count: 1 }, and the first entry is Entry { ticket: 7, units: 2 }.
     /// let served = book.tick(&mut entries)?;

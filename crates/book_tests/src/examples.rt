@@ -1,7 +1,4 @@
-// The examples that stand in the comments of `book` and `life`:
-// - of the crate `book`, and of `settings` and `tick`: `of_settings_and_a_tick`
-// - of `open`, `offer`, `strike`, `bill`, `blocks`, `save` and `load`: a test with the name of the call
-// - of the crate `life`: `of_a_life`; of `Request::of`: `of_a_request`; of `handle`: `of_handle`
+// The examples that the public items of `book` and `life` give.
 use super::samples::{book_at, book_of, check_left, job};
 use book::{Book, BookFault, BookField, CriticalBlock, Entry, HORIZON, IMAGE_LEN, PLACES, Served};
 use life::{Request, Response, handle};
@@ -37,6 +34,17 @@ fn of_settings_and_a_tick(rt: HostRuntime) {
                 units: 2
             }
     );
+}
+
+#[test]
+fn of_what_a_book_has(rt: HostRuntime) {
+    let mut book = Book::new();
+    assert_eq!(rt; (book.now(), book.top()), (0, 1));
+    assert_eq!(rt; book.open(5, 4), Ok(()));
+    assert_eq!(rt; (book.now(), book.top()), (5, 4));
+    assert_eq!(rt; book.offer(job(7, 5, 7, 3)), Ok(()));
+    assert_eq!(rt; book.offer(job(9, 5, 6, 2)), Ok(()));
+    assert_eq!(rt; book.jobs(), [job(9, 5, 6, 2), job(7, 5, 7, 3)].as_slice());
 }
 
 #[test]

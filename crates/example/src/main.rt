@@ -3,7 +3,7 @@
 #![tactic(auto)]
 
 use anyhow::anyhow;
-use book::{Book, BookFault, Entry, HORIZON, IMAGE_LEN, Job, PLACES};
+use book::{Book, BookFault, Entry, HORIZON, IMAGE_LEN, Job, PLACES, RECORD_LEN};
 use refusal::Refusal;
 
 // Tells a refusal by its number and its values.
@@ -66,7 +66,7 @@ fn print_image(rt: &impl Print, book: &Book) -> anyhow::Result<()> {
     let mut image = [0; IMAGE_LEN];
     book.save(&mut image).map_err(refused)?;
     print!(rt; "image ")?;
-    for byte in &image[..24] {
+    for byte in &image[..RECORD_LEN] {
         print!(rt; "{byte:02x}")?;
     }
     println!(rt; "")?;

@@ -38,6 +38,7 @@ impl Job {
     /// The job in the 24 bytes of a record, whatever its other bytes are.
     ///
     /// ```text
+    /// // record_tests: examples::of_a_job_in_bytes
     /// Job::of_record(&job.to_record(0x4a, &[0; LABEL_LEN]))   // job, where its ticks are at most LAST_TICK
     /// ```
     pub fn of_record(bytes: &[u8; RECORD_LEN]) -> Job
@@ -56,6 +57,7 @@ impl Job {
     /// Of arrival and deadline the low six bytes.
     ///
     /// ```text
+    /// // record_tests: examples::of_a_job_in_bytes
     /// let job = Job { ticket: 7, arrival: 1, deadline: 258, work: 3 };
     /// // [0x4a, 0, 0, 7, 0, 0, 0, 0, 0, 1, 0, 0, 0, 0, 1, 2, 0, 3, 0, 0, 0, 0, 0, 0]
     /// job.to_record(0x4a, &[0; LABEL_LEN])
@@ -77,6 +79,7 @@ impl Job {
     /// Does what is left of its work, or the units if they are less, and answers how many units that took.
     ///
     /// ```text
+    /// // record_tests: examples::of_served_work
     /// let mut job = Job { ticket: 7, arrival: 0, deadline: 2, work: 3 };
     /// job.serve(2)   // 2, and job.work is 1
     /// job.serve(2)   // 1, and job.work is 0

@@ -27,6 +27,7 @@ pub const RECORD_LEN: usize = LABEL + LABEL_LEN;
 /// What a record is, with the byte 0 that says so.
 ///
 /// ```text
+/// // record_tests: examples::of_kinds
 /// Kind::try_from(0x53)     // Ok(Kind::Strike)
 /// Kind::try_from(0x58)     // Err(UnknownKind(0x58))
 /// u8::from(Kind::Strike)   // 0x53
@@ -37,7 +38,7 @@ pub enum Kind {
     Offer = 0x4f,
     /// An open job is to be closed.
     Strike = 0x53,
-    /// A tick is over.
+    /// The tick at now is to be served.
     Tick = 0x54,
 }
 
@@ -62,7 +63,7 @@ impl TryFrom<u8> for Kind {
     ///
     /// # Refusals
     ///
-    /// - `UnknownKind`: when no kind has it
+    /// - `UnknownKind`: no kind has it.
     fn try_from(byte: u8) -> Result<Kind, UnknownKind> {
         match byte {
             0x4f => Ok(Kind::Offer),
@@ -76,6 +77,7 @@ impl TryFrom<u8> for Kind {
 /// Whether a label may hold the byte: 20 to 7E, hexadecimal.
 ///
 /// ```text
+/// // record_tests: examples::of_kinds
 /// is_printable(b'~')   // true
 /// is_printable(0x7f)   // false
 /// ```
@@ -114,6 +116,7 @@ impl Kind {
     /// The index of the first byte after byte 0 that the layout of the kind forbids.
     ///
     /// ```text
+    /// // record_tests: examples::of_forbidden_bytes
     /// Kind::Tick.first_forbidden(b"T\0\0\0\0\0\0\0\0\0\0\0\0\0\0\0\0\0      ")   // None
     /// Kind::Tick.first_forbidden(b"T\0\0\x07\0\0\0\0\0\0\0\0\0\0\0\0\0\0fader ")   // Some(3)
     /// ```

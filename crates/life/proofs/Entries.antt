@@ -50,7 +50,7 @@ jobs_after_all_permutation [] js ks h = h
 jobs_after_all_permutation (e ∷ es) js ks h =
     jobs_after_all_permutation es (jobs_after e js) (jobs_after e ks) (IsPermutation-filter has_work (map (job_after e) js) (map (job_after e) ks) (IsPermutation-map (job_after e) js ks h))
 
--- the entries of shares have the tickets of their jobs
+-- the entries of grants have the tickets of their jobs
 entries_other : (t : ℕ) (ss : List (Job × ℕ)) → All (λ s. t ≢ s.0.ticket) ss → All (λ e. t ≢ e.ticket) (entries_of ss)
 entries_other t ss others =
     All-map (λ e. t ≢ e.ticket) entry_of (filter (λ s. nat_lt 0 s.1) ss) (All-filter (λ s. nat_lt 0 s.1) (λ s. t ≢ s.0.ticket) ss others)
@@ -77,7 +77,7 @@ first_after : (s : Job × ℕ) (js : List Job) → All (λ j. j.ticket ≢ s.0.t
     → jobs_after (entry_of s) (s.0 ∷ js) ≡ cond (has_work (worked_job s)) (worked_job s ∷ js) js
 first_after s js others works = rw (eq-eqb s.0.ticket s.0.ticket refl, jobs_after_others (entry_of s) js others works)
 
--- a share of nothing leaves the job
+-- a grant of nothing leaves the job
 grant_none : (s : Job × ℕ) → s.1 ≡ 0 → worked_job s ≡ s.0
 grant_none s none = let e : s.0.work - s.1 ≡ s.0.work = omega arith in λ i. record { ticket = s.0.ticket; arrival = s.0.arrival; deadline = s.0.deadline; work = e i }
 
@@ -87,7 +87,7 @@ first_idle s js none works =
     let still : has_work (worked_job s) ≡ true = ap has_work same ∙ works in
     rw still (ap (λ j. j ∷ js) (sym same))
 
--- the entries of shares leave of their jobs what the shares leave
+-- the entries of grants leave of their jobs what the grants leave
 pub grants_after : (ss : List (Job × ℕ)) → AllPairs (λ s r. s.0.ticket ≢ r.0.ticket) ss → All (λ s. has_work s.0 ≡ true) ss
     → jobs_after_all (entries_of ss) (jobs_of ss) ≡ filter has_work (map worked_job ss)
 grants_after [] differ works = refl
@@ -160,13 +160,13 @@ pub for_job_after : (now : ℕ) (e f : Entry) (js : List Job) → e.ticket ≢ f
 for_job_after now e f js differ d =
     for_job_in now js (jobs_after e js) f d (contains_after e d.job js (λ same. differ (sym same ∙ d.same_ticket)) (lt-ltb 0 d.job.work (omega (arith, d.some_units, d.enough_left))) d.among)
 
--- a share gives its job no more units than its work left, and some only in its window
+-- a grant gives its job no more units than its work left, and some only in its window
 pub record SoundGrant (now : ℕ) (s : Job × ℕ) : Type 0 where
   pub enough_left : s.1 ≤ s.0.work
   pub begun : 0 < s.1 → s.0.arrival ≤ now
   pub not_over : now < s.0.deadline
 
--- the entries of such shares are for their jobs
+-- the entries of such grants are for their jobs
 pub entries_for_jobs : (now : ℕ) (ss : List (Job × ℕ)) → All (SoundGrant now) ss → All (ForJob now (jobs_of ss)) (entries_of ss)
 entries_for_jobs now [] sound = All-nil (ForJob now [])
 entries_for_jobs now (s ∷ ss) sound =
@@ -189,12 +189,12 @@ entries_for_jobs now (s ∷ ss) sound =
       | inr t ↦ rw t behind
     ]
 
--- the shares of a tick are those of the jobs
+-- the grants of a tick are those of the jobs
 pub jobs_granted : (now u : ℕ) (js : List Job) → jobs_of (grants now u js) ≡ js
 jobs_granted now u [] = refl
 jobs_granted now u (j ∷ js) = ap (λ ks. j ∷ ks) (jobs_granted now (u - edf_given u (demand now j)) js)
 
--- what holds of all jobs, and of all pairs of them, holds of their shares
+-- what holds of all jobs, and of all pairs of them, holds of their grants
 pub all_granted : (P : Job → Type 0) (now u : ℕ) (js : List Job) → All P js → All (λ s. P s.0) (grants now u js)
 all_granted P now u [] all = All-nil (λ (s : Job × ℕ). P s.0)
 all_granted P now u (j ∷ js) all =
@@ -208,7 +208,7 @@ pairs_granted R now u (j ∷ js) pairs =
     AllPairs-cons (λ s r. R s.0 r.0) (j, g) (grants now (u - g) js)
     (all_granted (R j) now (u - g) js (AllPairs-head R j js pairs)) (pairs_granted R now (u - g) js (AllPairs-tail R j js pairs))
 
--- and they are such shares
+-- and they are such grants
 pub grants_sound : (now u : ℕ) (js : List Job) → All (IsOpenAt now) js → All (SoundGrant now) (grants now u js)
 grants_sound now u [] all = All-nil (SoundGrant now)
 grants_sound now u (j ∷ js) all =

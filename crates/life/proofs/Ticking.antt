@@ -10,7 +10,7 @@ use Rattle.layout.specs.Jobs.{last_tick}
 use Rattle.book.specs.Settings.{settings_of}
 use Rattle.book.specs.declared.tick.Served.{Served}
 use Rattle.book.specs.Lists.{list_with}
-use Rattle.book.specs.Outcomes.{Outcome, accepted, outcome}
+use Rattle.book.specs.Outcomes.{Outcome, accepted_outcome, outcome}
 use Rattle.book.specs.Ticks.{entries_of, grants_of, book_after_tick, tick_fault}
 use Rattle.book.proofs.Ticking.{gives_setting, lawful_after}
 use Rattle.life.specs.Events.{tick, served_answer, entries_written}
@@ -61,7 +61,7 @@ module _ (t : Tally) (b : View) (list : List Entry) (agrees : Agrees t b) where
     agrees_after : Agrees (tally_answered t (record { call = tick list; answer = served_answer x.answer; entries = entries_written (served_answer x.answer) x.list }) (served_answer x.answer)) x.book
 
   answered : (o : Option BookFault) → tick_fault b list ≡ o
-      → Answered (outcome o b list (accepted (record { setting = settings_of b 0; count = length es }) (book_after_tick b) (list_with es list)))
+      → Answered (outcome o b list (accepted_outcome (record { setting = settings_of b 0; count = length es }) (book_after_tick b) (list_with es list)))
   answered (Some f) e = record { serving = tt; agrees_after = agrees }
   answered None e = record {
     serving = subst (ServesTick t b (record { setting = settings_of b 0; count = length es })) (sym first_places) serves;

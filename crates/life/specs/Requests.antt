@@ -21,16 +21,16 @@ request_of (strike_record t) = Strike t
 request_of tick_record = Tick
 
 -- the outcome of a call of the book as that of a request: its answer told as a response, and the list
-abbrev pub outcome_told : {A L : Type 0} → (A → Response) → List Entry → Outcome A BookFault L
+abbrev pub outcome_as_response : {A L : Type 0} → (A → Response) → List Entry → Outcome A BookFault L
     → Outcome Response BookFault (List Entry)
-outcome_told response list o =
+outcome_as_response response list o =
     record { answer = result_map_both response (λ fault. fault) o.answer; book = o.book; list = list }
 
 -- an offer, a strike or a tick
 abbrev pub request_outcome : View → Request → List Entry → Outcome Response BookFault (List Entry)
-request_outcome b (Offer j) list = outcome_told (λ u. Offered j.ticket) list (offer_outcome b j)
-request_outcome b (Strike t) list = outcome_told (λ u. Struck t) list (strike_outcome b t)
-request_outcome b Tick list = let o = tick_outcome b list in outcome_told Served o.list o
+request_outcome b (Offer j) list = outcome_as_response (λ u. Offered j.ticket) list (offer_outcome b j)
+request_outcome b (Strike t) list = outcome_as_response (λ u. Struck t) list (strike_outcome b t)
+request_outcome b Tick list = let o = tick_outcome b list in outcome_as_response Served o.list o
 
 -- the call of a request that brings the list
 abbrev pub call_of : Request → List Entry → Call

@@ -5,6 +5,7 @@
 //! [`handle`] keeps them, for whatever life the book has had.
 //!
 //! ```text
+//! // book_tests: examples::of_a_life
 //! let mut book = Book::new();
 //! book.open(0, 4)?;
 //! let mut list = [Entry::default(); PLACES];
@@ -51,12 +52,13 @@ impl Request {
     /// What a record asks of a book. The label of an offer plays no part in it.
     ///
     /// ```text
+    /// // book_tests: examples::of_a_request
     /// Request::of(&Record::Strike { ticket: 7 }) // Request::Strike { ticket: 7 }
     /// ```
-    pub fn of(record: &Record) -> Request
-        ensures { result ≡ request_of (content_of record.now) }
+    pub fn of(said: &Record) -> Request
+        ensures { result ≡ request_of (content_of said.now) }
     {
-        match *record {
+        match *said {
             Record::Offer(Offer { job, .. }) => Request::Offer(job),
             Record::Strike { ticket } => Request::Strike { ticket },
             Record::Tick => Request::Tick,
@@ -95,6 +97,7 @@ impl Request {
 /// they were then.
 ///
 /// ```text
+/// // book_tests: examples::of_handle
 /// handle(&mut book, &Request::Strike { ticket: 7 }, &mut list)?; // Response::Struck { ticket: 7 }
 /// ```
 pub fn handle(book: &mut Book, request: &Request, list: &mut [Entry]) -> Result<Response, BookFault>

@@ -110,6 +110,7 @@ impl<'a> Demands<'a> {
     /// The demands of the list, where settings can be made for them.
     ///
     /// # Refusals
+    ///
     /// - `None`: there are more than 64; or one with units left has a window of no tick, or one that ends after tick
     ///   256; or one ends before one that stands before it in the list.
     ///

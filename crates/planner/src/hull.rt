@@ -53,7 +53,8 @@ impl<'a> Hull<'a> {
     pub(super) fn allocate_unit(&mut self, plan: &mut Plan)
         requires hull { IsHull (state_of plan.old) self.old }
         requires room { HasRoom 1 (state_of plan.old) }
-        ensures allocated { state_of plan.new ≡ place_at self.old.from (spot self.old.from self.old.to (state_of plan.old)) (state_of plan.old) }
+        ensures allocated { state_of plan.new
+            ≡ place_at self.old.from (spot self.old.from self.old.to (state_of plan.old)) (state_of plan.old) }
         ensures hull { IsHull (state_of plan.new) self.new }
         ensures window { (self.new.from ≡ self.old.from) × (self.new.to ≡ self.old.to) }
     {

@@ -27,7 +27,8 @@ pub(super) fn taken_ticks(
     times: &[u16; HORIZON + 1],
     pair: &Pair,
 ) -> [bool; HORIZON]
-    ensures { (t : ℕ) → t < 256 → is_marked_in result t ≡ (is_free_in free.now t && between (times_of pair.now) (listed times.now t)) }
+    ensures { (t : ℕ) → t < 256
+        → is_marked_in result t ≡ (is_free_in free.now t && between (times_of pair.now) (listed times.now t)) }
 {
     let mut taken = [false; HORIZON];
     for (tick, free) in free.iter().enumerate() {

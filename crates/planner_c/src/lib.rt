@@ -28,6 +28,7 @@ pub struct PlannerDemand {
 /// A setting for each tick from now on.
 #[repr(C)]
 pub struct PlannerSettingsList {
+    /// The setting of each tick, in units of work in a tick; the first is that of the tick that comes next.
     pub settings: [u32; HORIZON],
 }
 
@@ -48,7 +49,9 @@ pub struct PlannerBlock {
 /// Critical blocks, in the order of the rounds: the first `count` of the list.
 #[repr(C)]
 pub struct PlannerBlockList {
+    /// How many blocks there are: at most 64.
     pub count: usize,
+    /// The blocks; what stands after the first `count` says nothing.
     pub blocks: [PlannerBlock; MOST_DEMANDS],
 }
 
@@ -80,11 +83,24 @@ fn plannable<'a>(
     Demands::new(list).ok_or(2)
 }
 
-/// Writes the settings in force for these demands and answers 0, or answers why it writes none: 1 where there are more than 64,
-/// 2 where a window is not within 256 ticks or the demands are not in order of deadline.
+/// Writes the settings in force for these demands and answers 0, or answers why it writes none.
 ///
-/// C passes the demands as a pointer, then their number. Neither pointer is null, even for no demand, and `found` lies apart from
-/// the demands.
+/// C passes the demands as a pointer, then their number. Neither pointer is null, even for no demand, and `found` lies
+/// apart from the demands.
+///
+/// # Refusals
+///
+/// `found` is as it was then.
+///
+/// - 1: there are more than 64 demands.
+/// - 2: a window is not within 256 ticks, or the demands are not in order of deadline.
+///
+/// ```text
+/// // tests/planner_h.sh
+/// struct planner_demand demands[2] = {{0, 2, 3}, {0, 3, 1}};
+/// struct planner_settings_list settings;
+/// planner_settings(demands, 2, &settings); // 0: the settings 2, 1, 1, and then 0
+/// ```
 #[unsafe(no_mangle)]
 pub extern "C" fn planner_settings(
     demands: &[PlannerDemand],
@@ -93,7 +109,8 @@ pub extern "C" fn planner_settings(
     ensures many { result ≡ 1 ↔ 64 < length demands.now }
     ensures planned { result ≡ 0 ↔ IsPlannable (as_demands demands.now) }
     ensures otherwise { result ≤ 2 }
-    ensures settings { result ≡ 0 → Same horizon (listed found.new.settings) (settings_in_force (as_demands demands.now)) }
+    ensures settings { result ≡ 0
+        → Same horizon (listed found.new.settings) (settings_in_force (as_demands demands.now)) }
     ensures in_force { result ≡ 0 → InForce horizon (as_demands demands.now) (listed found.new.settings) }
     ensures unchanged { 0 < result → found.new ≡ found.old }
 {
@@ -127,11 +144,19 @@ impl PlannerBlockList {
     }
 }
 
-/// Writes the critical blocks of the demands that have work left and answers 0, or answers why it writes none, as
-/// `planner_settings` does and by the same numbers.
+/// Writes the critical blocks of the demands that have work left and answers 0, or answers why it writes none.
 ///
-/// C passes the demands as a pointer, then their number. Neither pointer is null, even for no demand, and `found` lies apart from
-/// the demands.
+/// The pointers are as for `planner_settings`.
+///
+/// # Refusals
+///
+/// `found` is as it was then, and the numbers are those of `planner_settings`.
+///
+/// ```text
+/// // tests/planner_h.sh, with the demands of `planner_settings`
+/// struct planner_block_list blocks;
+/// planner_blocks(demands, 2, &blocks); // 0: two blocks, 3 units in the ticks 0 and 1, then 1 unit in tick 2
+/// ```
 #[unsafe(no_mangle)]
 pub extern "C" fn planner_blocks(demands: &[PlannerDemand], found: &mut PlannerBlockList) -> u32
     ensures many { result ≡ 1 ↔ 64 < length demands.now }

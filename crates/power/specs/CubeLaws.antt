@@ -10,7 +10,8 @@ use Rattle.power.specs.Cubes.{cube_table}
 
 -- the number of the table at a setting is its cube
 pub cube_in_table : (t : List ℕ) → t ≡ cube_table → (s : ℕ) → s ≤ 255 → draw_at t s ≡ cube s
-cube_in_table t rule s h = ap (λ u. draw_at u s) rule ∙ get_or-map-range_with_len cube 0 256 s s 0 (omega arith) (omega arith)
+cube_in_table t rule s h =
+    ap (λ u. draw_at u s) rule ∙ get_or-map-range_with_len cube 0 256 s s 0 (omega arith) (omega arith)
 
 -- the cubes keep the laws: one test over all settings
 pub cubes_lawful : Lawful 255 cube

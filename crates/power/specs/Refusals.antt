@@ -2,7 +2,7 @@
 use Rattle.std.specs.Prelude.{ℕ}
 use Rattle.refusal.specs.declared.Layer.TheVariants.{Power}
 use Rattle.refusal.specs.declared.Refusal.{Refusal}
-use Rattle.refusal.specs.Told.{refusal_with}
+use Rattle.refusal.specs.Refusals.{refusal_with}
 use Rattle.power.specs.declared.fault.CubeField.{CubeField}
 use Rattle.power.specs.declared.fault.CubeField.TheVariants.{FixedDraw}
 use Rattle.power.specs.declared.fault.PowerFault.{PowerFault}

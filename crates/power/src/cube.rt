@@ -29,7 +29,8 @@ impl Cube {
     /// A model with this fixed draw and this factor.
     ///
     /// # Refusals
-    /// - `PowerFault::Field(CubeField::FixedDraw)`: the fixed draw is above 66,000,000.
+    ///
+    /// - [`PowerFault::Field(CubeField::FixedDraw)`]: the fixed draw is above 66,000,000.
     ///
     /// ```text
     /// // power_tests: examples::of_a_cube_model
@@ -38,7 +39,8 @@ impl Cube {
     /// Cube::new(66_000_001, 2);   // Err(PowerFault::Field(CubeField::FixedDraw))
     /// ```
     pub fn new(fixed: u32, factor: u8) -> Result<Cube, PowerFault>
-        ensures { result_map_both (λ model. (model.fixed, model.factor)) (λ fault. fault) result ≡ new_cube fixed factor }
+        ensures { result_map_both (λ model. (model.fixed, model.factor)) (λ fault. fault) result
+            ≡ new_cube fixed factor }
     {
         if fixed > MAX_FIXED {
             return Err(PowerFault::Field(CubeField::FixedDraw));

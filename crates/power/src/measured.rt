@@ -57,8 +57,9 @@ impl Measured {
     /// Replaces all numbers by the first 256 of the list. Where it refuses, all numbers are as before.
     ///
     /// # Refusals
-    /// - `PowerFault::Short`: the list has fewer than 256 numbers.
-    /// - `PowerFault::Broken`: the first 256 break a law of the draws, at this setting and at none before it.
+    ///
+    /// - [`PowerFault::Short`]: the list has fewer than 256 numbers.
+    /// - [`PowerFault::Broken`]: the first 256 break a law of the draws, at this setting and at none before it.
     ///
     /// ```text
     /// // power_tests: examples::of_a_measured_model

@@ -9,7 +9,7 @@ pub const SETTING_VALUES: usize = 256;
 /// in.
 ///
 /// The ghost member `draws` is the model's numbers D(0) to D(255). Whatever is generic over a model has its laws: no
-/// number is above 4,294,967,295, they never fall as the setting rises, and they rise by ever greater steps.
+/// number is above 4,294,967,295, they never fall as the setting rises, and no step up adds less than the one before.
 pub trait PowerModel {
     ghost draws: { Self → ℕ → ℕ };
 

@@ -6,9 +6,9 @@ use power::{Cube, Floor, Measured, PowerFault, SETTING_VALUES};
 fn measured() -> Result<Measured, PowerFault> {
     let mut draws = [0; SETTING_VALUES];
     let mut draw = 0u32;
-    for (held, setting) in draws.iter_mut().zip(0..256u32) {
-        draw = draw.saturating_add(setting);
-        *held = draw;
+    for (setting, element) in draws.iter_mut().enumerate() {
+        draw = draw.saturating_add(setting as u32);
+        *element = draw;
     }
     let mut model = Measured::new();
     model.load_draws(&draws)?;

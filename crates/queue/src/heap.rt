@@ -22,7 +22,8 @@ pub struct Queue<'a, T: Rank> {
 fn lesser_child<T: Rank>(heap: &[T], index: usize) -> usize
     requires { 2 * index + 1 < length heap.now }
     ensures child { (IsChild index result) × (result < length heap.now) }
-    ensures least { (k : ℕ) (d : T) → IsChild index k → k < length heap.now → T.before (slice_index_or heap.now k d) (slice_index_or heap.now result d) ≡ false }
+    ensures least { (k : ℕ) (d : T) → IsChild index k → k < length heap.now
+        → T.before (slice_index_or heap.now k d) (slice_index_or heap.now result d) ≡ false }
 {
     let left = 2 * index + 1;
     let right = left + 1;
@@ -97,6 +98,7 @@ impl<'a, T: Rank> Queue<'a, T> {
     /// Adds an element, or gives it back where every slot is taken.
     ///
     /// # Refusals
+    ///
     /// - `Err(element)`: every slot is taken, and all is as before.
     ///
     /// ```text

@@ -47,7 +47,8 @@ impl ReadyQueue<'_> {
     /// Adds a job. Where it refuses, all is as before.
     ///
     /// # Refusals
-    /// - `QueueFault::Full`: every slot is taken; it is told as 10 and the slots that would be needed.
+    ///
+    /// - [`QueueFault::Full`]: every slot is taken; it is told as 10 and the slots that would be needed.
     ///
     /// ```text
     /// // queue_tests: examples::of_a_ready_queue

@@ -45,7 +45,8 @@ impl TickQueue<'_> {
     /// Adds a tick. Where it refuses, all is as before.
     ///
     /// # Refusals
-    /// - `QueueFault::Full`: every slot is taken; it is told as 10 and the slots that would be needed.
+    ///
+    /// - [`QueueFault::Full`]: every slot is taken; it is told as 10 and the slots that would be needed.
     ///
     /// ```text
     /// // queue_tests: examples::of_a_tick_queue

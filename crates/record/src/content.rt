@@ -22,7 +22,7 @@ pub enum Record<'a> {
     Offer(Offer<'a>),
     /// The open job with this ticket is to be closed.
     Strike { ticket: u16 },
-    /// A tick is over.
+    /// The tick at now is to be served.
     Tick,
 }
 
@@ -30,6 +30,7 @@ impl<'a> Record<'a> {
     /// The label of the record: of an offer its own; a strike and a tick have a blank one, of no bytes.
     ///
     /// ```text
+    /// // record_tests: examples::of_labels
     /// Record::Offer(Offer { job, label: b"fader" }).label()   // fader
     /// Record::Tick.label()                                    // no bytes
     /// ```

@@ -24,6 +24,7 @@ pub(super) fn is_label(label: &[u8]) -> bool
 /// Neither is copied.
 ///
 /// ```text
+/// // record_tests: examples::of_labels
 /// shown(b"fader", b"house")   // fader
 /// shown(b"", b"house")        // house
 /// ```

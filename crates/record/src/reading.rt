@@ -45,6 +45,7 @@ fn parse(bytes: &[u8; RECORD_LEN], offset: usize) -> Result<Record<'_>, ReadFaul
 /// An offer's label is a part of the input, so the records may outlive the reader.
 ///
 /// ```text
+/// // record_tests: examples::of_reading
 /// // The 24 bytes of a strike of ticket 7, and three bytes more.
 /// let mut reader = Reader::new(b"S\0\0\x07\0\0\0\0\0\0\0\0\0\0\0\0\0\0      T\0\0");
 /// reader.read()     // Ok(Some(Record::Strike { ticket: 7 }))
@@ -70,6 +71,11 @@ impl<'a> Model for Reader<'a> {
 
 impl<'a> Reader<'a> {
     /// A reader at the start of the input, which may be empty.
+    ///
+    /// ```text
+    /// // record_tests: examples::of_reading
+    /// Reader::new(b"").read() // Ok(None)
+    /// ```
     pub fn new(input: &'a [u8]) -> Reader<'a>
         ensures { result ≡ record { input = input.now; offset = 0 } }
     {
@@ -77,6 +83,8 @@ impl<'a> Reader<'a> {
     }
 
     /// The offset of the next record: how many bytes of the input stand before it.
+    ///
+    /// The example at [`Reader`] asks for it.
     pub fn offset(&self) -> usize
         ensures offset { result ≡ self.now.offset }
         ensures within { result ≤ length self.now.input }
@@ -91,9 +99,11 @@ impl<'a> Reader<'a> {
     ///
     /// # Refusals
     ///
-    /// - `ReadFault::Cut`: when 1 to 23 bytes remain
-    /// - `ReadFault::UnknownKind`: when byte 0 of the record is no kind
-    /// - `ReadFault::Forbidden`: when a later byte is one that the layout of the kind forbids
+    /// - [`ReadFault::Cut`]: 1 to 23 bytes remain.
+    /// - [`ReadFault::UnknownKind`]: byte 0 of the record is no kind.
+    /// - [`ReadFault::Forbidden`]: a later byte is one that the layout of the kind forbids.
+    ///
+    /// The example at [`Reader`] reads a record and meets a cut one.
     pub fn read(&mut self) -> Result<Option<Record<'a>>, ReadFault>
         ensures said { read_answer_of result ≡ read_answer self.old.input self.old.offset }
         ensures only { IsOnlyForm (read_answer_of result) (part self.old.offset 24 self.old.input) }

@@ -1,7 +1,8 @@
 // The writer: one record into the caller's list.
 ghost use Rattle.std.specs.Prelude.{◌≡◌, true, take, is_ok, OnOk};
 ghost use Rattle.layout.specs.RoundTrip.{IsSizedContent, trimmed_content, ReadsAs};
-ghost use Rattle.layout.specs.Writing.{bare_job, encoding_of, encode_answer, write_check, offer_check, write_answer, list_after};
+ghost use Rattle.layout.specs.Writing.{bare_job, encoding_of, encode_answer, write_check, offer_check};
+ghost use Rattle.layout.specs.Writing.{write_answer, list_after};
 ghost use Rattle.record.specs.Content.{content_of};
 
 use super::content::{Offer, Record};
@@ -58,6 +59,7 @@ fn encode(said: &Record) -> Result<[u8; RECORD_LEN], WriteFault>
 /// They read back as the record, but for the last spaces of its label.
 ///
 /// ```text
+/// // record_tests: examples::of_writing
 /// let mut bytes = [0; RECORD_LEN];
 /// write(&Record::Strike { ticket: 7 }, &mut bytes)?;
 /// Reader::new(&bytes).read()   // Ok(Some(Record::Strike { ticket: 7 }))
@@ -67,10 +69,10 @@ fn encode(said: &Record) -> Result<[u8; RECORD_LEN], WriteFault>
 ///
 /// Checked in this order; a refused call leaves the list as it was.
 ///
-/// - `WriteFault::Field(WrittenField::Arrival)`: when the arrival of an offer is after `LAST_TICK`
-/// - `WriteFault::Field(WrittenField::Deadline)`: when its deadline is
-/// - `WriteFault::Field(WrittenField::Label)`: when its label is not six bytes from 20 to 7E, hexadecimal
-/// - `WriteFault::Short`: when the list has fewer than 24 bytes
+/// - [`WriteFault::Field(WrittenField::Arrival)`]: the arrival of an offer is after `LAST_TICK`.
+/// - [`WriteFault::Field(WrittenField::Deadline)`]: its deadline is.
+/// - [`WriteFault::Field(WrittenField::Label)`]: its label is not six bytes from 20 to 7E, hexadecimal.
+/// - [`WriteFault::Short`]: the list has fewer than 24 bytes.
 pub fn write(said: &Record, out: &mut [u8]) -> Result<(), WriteFault>
     ensures said { result ≡ write_answer (content_of said.now) out.old }
     ensures written { out.new ≡ list_after (content_of said.now) out.old }

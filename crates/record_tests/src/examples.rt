@@ -1,10 +1,11 @@
-// The examples that the public items of the records give.
+// The examples that the public items of the records and of the transcript give.
 use layout::is_printable;
 use record::{
     Job, Kind, LABEL_LEN, LAST_TICK, Offer, RECORD_LEN, ReadFault, Reader, Record, UnknownKind,
     shown, write,
 };
 use std::test::Fail;
+use transcript::{Bench, BenchFault, Transcript};
 
 const JOB: Job = Job {
     ticket: 7,
@@ -76,6 +77,7 @@ fn of_reading(rt: HostRuntime) {
     assert_eq!(rt; reader.read(), Ok(Some(Record::Strike { ticket: 7 })));
     assert_eq!(rt; reader.offset(), 24);
     assert_eq!(rt; reader.read(), Err(ReadFault::Cut { offset: 24 }));
+    assert_eq!(rt; Reader::new(b"").read(), Ok(None));
 }
 
 #[test]
@@ -102,4 +104,30 @@ fn of_labels(rt: HostRuntime) {
     assert_eq!(rt; Record::Tick.label(), b"".as_slice());
     assert_eq!(rt; shown(b"fader", b"house"), b"fader".as_slice());
     assert_eq!(rt; shown(b"", b"house"), b"house".as_slice());
+}
+
+#[test]
+fn of_a_bench(rt: HostRuntime) -> Result<(), Fail> {
+    let mut bench = Bench::new(b"T\0\0\0\0\0\0\0\0\0\0\0\0\0\0\0\0\0      ");
+    let Some(line) = bench.next() else {
+        return Err(Fail::new("there is no line"));
+    };
+    let text = format!(in rt.alloc(); "{line}")?;
+    assert_eq!(rt; text.as_str(), "T 0 0");
+    assert!(rt; bench.next().is_none());
+    Ok(())
+}
+
+#[test]
+fn of_a_transcript(rt: HostRuntime) -> Result<(), Fail> {
+    let text = Transcript::of(b"S\0\0\x07\0\0\0\0\0\0\0\0\0\0\0\0\0\0      T\0");
+    let text = format!(in rt.alloc(); "{text}")?;
+    assert_eq!(rt; text.as_str(), "R 0 9 7\nR 24 1 24\n");
+    Ok(())
+}
+
+#[test]
+fn of_the_end_of_a_run(rt: HostRuntime) {
+    assert!(rt; BenchFault::from(ReadFault::Cut { offset: 24 }).ends_run());
+    assert!(rt; !BenchFault::from(ReadFault::UnknownKind { offset: 24 }).ends_run());
 }

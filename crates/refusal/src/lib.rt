@@ -3,22 +3,23 @@
 
 ghost use Rattle.std.specs.Prelude.{◌≡◌, Some};
 ghost use Rattle.refusal.specs.Text.{refusal_text};
-ghost use Rattle.refusal.specs.Told.{refusal_with};
+ghost use Rattle.refusal.specs.Refusals.{refusal_with};
 
 use std::fmt;
 
 /// The layers of the governor, lowest first: a refusal names the one that refused.
 #[derive(Clone, Copy, PartialEq, Eq, Debug)]
 pub enum Layer {
-    /// The queue of the jobs that are ready to be served.
+    /// The priority queue, of ready jobs or of planned ticks.
     Queue,
-    /// What each setting draws.
+    /// The power models.
     Power,
     /// The reader and the writer of records.
     Record,
-    /// The open jobs.
+    /// The book of open jobs.
     Book,
-    /// The bench, which works the records of a file.
+    /// The bench, which works the records of a file. It refuses nothing of its own today: what it is told by a layer
+    /// below keeps that layer.
     Bench,
 }
 
@@ -34,6 +35,7 @@ pub enum Values {
 /// A refusal as the caller is told of it. `{}` writes its number and its values:
 ///
 /// ```text
+/// // record_tests: telling::a_refusal_is_printed_by_number_and_values
 /// let refusal = Refusal { layer: Layer::Book, number: 8, values: Values::Three(1, 2, 6) };
 /// format!("{refusal}")   // 8 1 2 6
 /// ```
@@ -51,6 +53,7 @@ impl Refusal {
     /// The refusal of a layer with its number and one value.
     ///
     /// ```text
+    /// // record_tests: telling::a_refusal_is_printed_by_number_and_values
     /// let refusal = Refusal::with_value(Layer::Record, 1, 48);
     /// format!("{refusal}")   // 1 48
     /// ```

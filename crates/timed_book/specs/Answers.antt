@@ -16,7 +16,8 @@ values_of (Three a b c) = a ∷ b ∷ c ∷ []
 
 -- a refusal by its number and values
 abbrev pub answer_of_refusal : BookFault → TimedAnswer
-answer_of_refusal fault = record { number = (book_refusal fault).number; values = values_of (book_refusal fault).values }
+answer_of_refusal fault =
+    record { number = (book_refusal fault).number; values = values_of (book_refusal fault).values }
 
 -- an accepted offer, or its refusal
 abbrev pub answer_of_offer : Result (Unit {0}) BookFault → TimedAnswer

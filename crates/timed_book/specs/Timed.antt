@@ -1,17 +1,13 @@
 -- What is done many times to the book of an image.
-use Rattle.std.specs.Prelude.{ℕ, zero, suc, List, replicate}
+use Rattle.std.specs.Prelude.{ℕ, zero, suc, List}
 use Rattle.layout.specs.declared.job.Job.{Job}
 use Rattle.book.specs.declared.tick.Entry.{Entry}
 use Rattle.book.specs.Book.{View, empty_book}
 use Rattle.book.specs.Calls.{offer_outcome, strike_outcome}
 use Rattle.book.specs.Images.{load_outcome}
-use Rattle.book.specs.Ticks.{tick_outcome}
+use Rattle.book.specs.Ticks.{no_entries, tick_outcome}
 use Rattle.timed_book.specs.declared.TimedAnswer.{TimedAnswer}
 use Rattle.timed_book.specs.Answers.{answer_of_offer, answer_of_tick}
-
--- a list in which no entry is written
-abbrev pub no_entries : List Entry
-no_entries = replicate 64 (record { ticket = 0; units = 0 })
 
 -- the book of an image, or a new one where the image is refused
 unfoldable pub book_of : List ℕ → View
@@ -21,7 +17,7 @@ book_of image = (load_outcome (empty_book 0 1) image).book
 abbrev pub job_of : (ticket arrival deadline work : ℕ) → Job
 job_of t a d w = record { ticket = t; arrival = a; deadline = d; work = w }
 
--- the book after the job was offer_outcome, and strike_outcome again
+-- the book after the job was offered, and struck again
 unfoldable pub offer_and_strike : Job → View → View
 offer_and_strike job b = (strike_outcome (offer_outcome b job).book job.ticket).book
 

@@ -1,17 +1,19 @@
-//! The book for the benchmark in C: a static library that is timed, and offer_outcome to nobody.
+//! The book for the benchmark in C: a static library that is timed, and offered to nobody.
 //!
 //! Each call loads the image of a book, does the same `times` times, and answers the last time. So the load counts
 //! little.
 #![tactic(auto)]
 
 ghost use Rattle.std.specs.Prelude.{◌≡◌, length, map};
-ghost use Rattle.timed_book.specs.Timed.{after, book_of, job_of, offer_and_strike, tick_once, offer_answer, tick_answer, tick_entries};
+ghost use Rattle.timed_book.specs.Timed.{after, book_of, job_of, offer_and_strike, tick_once, offer_answer};
+ghost use Rattle.timed_book.specs.Timed.{tick_answer, tick_entries};
 ghost use Rattle.timed_book.specs.Answers.{answer_of_refusal, answer_of_offer, answer_of_tick, entry_from_c};
 
 use book::{Book, BookFault, Entry, Job, PLACES, Served};
 use refusal::{Refusal, Values};
 
-/// What a call answered: 0 and what it served, or the number of a refusal and its values. Zeros fill the list of values.
+/// What a call answered: 0 and what it served, or the number of a refusal and its values. Zeros fill the list of
+/// values.
 #[repr(C)]
 pub struct TimedAnswer {
     pub number: u32,
@@ -84,7 +86,7 @@ fn book_of(image: &[u8]) -> Book
     book
 }
 
-// The job is offer_outcome, and strike_outcome again.
+// The job is offered, and struck again.
 fn offer_and_strike(book: &mut Book, job: Job)
     ensures { book.new ≡ offer_and_strike job book.old }
 {
@@ -92,7 +94,7 @@ fn offer_and_strike(book: &mut Book, job: Job)
     let _ = book.strike(job.ticket);
 }
 
-// The job is offer_outcome, and the answer told.
+// The job is offered, and the answer told.
 fn offer(book: &mut Book, job: Job) -> TimedAnswer
     ensures { result ≡ offer_answer job book.old }
 {
@@ -157,8 +159,8 @@ pub extern "C" fn timed_offers(
     offer(&mut book, job)
 }
 
-/// Loads the image, serves `times` ticks and one more, and answers that one. Its entries are written to the list, and zeros after
-/// them.
+/// Loads the image, serves `times` ticks and one more, and answers that one. Its entries are written to the list, and
+/// zeros after them.
 ///
 /// An image that is refused stands for a new book.
 #[unsafe(no_mangle)]

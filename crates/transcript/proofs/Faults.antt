@@ -18,16 +18,16 @@ use Rattle.book.specs.Lists.{short_fault}
 use Rattle.book.specs.Outcomes.{Outcome, outcome}
 use Rattle.book.specs.Calls.{plain_outcome, field_fault, place_fault, early_fault, overload_fault_at, first_overload_of, overload_fault, book_with_job, offer_fault, strike_fault}
 use Rattle.book.specs.Jobs.{is_ticket_open, jobs_without}
-use Rattle.book.specs.Ticks.{tick_fault, tick_outcome}
+use Rattle.book.specs.Ticks.{no_entries, tick_fault, tick_outcome}
 use Rattle.life.specs.declared.Request.{Request}
 use Rattle.life.specs.declared.Request.TheVariants.{Offer, Strike, Tick}
 use Rattle.life.specs.declared.Response.{Response}
 use Rattle.life.specs.declared.Response.TheVariants.{Offered, Struck, Served}
-use Rattle.life.specs.Requests.{outcome_told, request_of, request_outcome}
+use Rattle.life.specs.Requests.{outcome_as_response, request_of, request_outcome}
 use Rattle.transcript.specs.declared.fault.BenchFault.{BenchFault}
 use Rattle.transcript.specs.declared.fault.BenchFault.TheVariants.{Book}
 use Rattle.transcript.specs.Refusals.{ends_book}
-use Rattle.transcript.specs.Lines.{PlainLine, line_for, no_entries, content_outcome, read_outcome, line_of_answer, is_over_after}
+use Rattle.transcript.specs.Lines.{PlainLine, line_for, content_outcome, read_outcome, line_of_answer, is_over_after}
 
 -- a fault, if there is one, does not end the run
 abbrev Quiet : Option BookFault → Type 0
@@ -76,26 +76,26 @@ Going (Ok response) = Unit {0}
 Going (Err f) = ends_book f ≡ false
 
 -- so a call whose fault does not end it does not end it, however its outcome is told
-told_going : {A L : Type 0} (o : Option BookFault) (b : View) (list : L) (done : Outcome A BookFault L) (response : A → Response)
-    (left : List Entry) → Quiet o → IsOk done.answer → Going (outcome_told response left (outcome o b list done)).answer
-told_going None b list done response left q ok = ok_going done.answer response ok
+outcome_going : {A L : Type 0} (o : Option BookFault) (b : View) (list : L) (done : Outcome A BookFault L) (response : A → Response)
+    (left : List Entry) → Quiet o → IsOk done.answer → Going (outcome_as_response response left (outcome o b list done)).answer
+outcome_going None b list done response left q ok = ok_going done.answer response ok
   where
     ok_going : {A : Type 0} (answer : Result A BookFault) (response : A → Response) → IsOk answer
         → Going (result_map_both response (λ fault. fault) answer)
     ok_going (Ok a) response ok = tt
     ok_going (Err f) response ok = absurd (cc)
-told_going (Some f) b list done response left q ok = q
+outcome_going (Some f) b list done response left q ok = q
 
 handled_going : (b : View) (r : Request) (list : List Entry) → Going (request_outcome b r list).answer
-handled_going b (Offer j) list = told_going (offer_fault b j) b tt _ (λ u. Offered j.ticket) list (quiet_offer b j) refl
-handled_going b (Strike t) list = told_going (strike_fault b t) b tt _ (λ u. Struck t) list (quiet_strike b t) refl
-handled_going b Tick list = told_going (tick_fault b list) b list _ Served (tick_outcome b list).list (quiet_tick b list) refl
+handled_going b (Offer j) list = outcome_going (offer_fault b j) b tt _ (λ u. Offered j.ticket) list (quiet_offer b j) refl
+handled_going b (Strike t) list = outcome_going (strike_fault b t) b tt _ (λ u. Struck t) list (quiet_strike b t) refl
+handled_going b Tick list = outcome_going (tick_fault b list) b list _ Served (tick_outcome b list).list (quiet_tick b list) refl
 
 -- the answer of a step that is told from such an answer
-abbrev told_line : (Response → PlainLine) → Result Response BookFault → Result (Option PlainLine) BenchFault
-told_line line answer = result_map_both (λ response. Some (line response)) Book answer
+abbrev response_line : (Response → PlainLine) → Result Response BookFault → Result (Option PlainLine) BenchFault
+response_line line answer = result_map_both (λ response. Some (line response)) Book answer
 
-answer_goes_on : (line : Response → PlainLine) (answer : Result Response BookFault) → Going answer → is_over_after (told_line line answer) ≡ false
+answer_goes_on : (line : Response → PlainLine) (answer : Result Response BookFault) → Going answer → is_over_after (response_line line answer) ≡ false
 answer_goes_on line (Ok response) g = refl
 answer_goes_on line (Err f) g = g
 
@@ -110,7 +110,7 @@ goes_on b (Err (UnknownKind at)) h = refl
 goes_on b (Err (Forbidden at)) h = refl
 
 -- an answered record has a line
-answer_said : (line : Response → PlainLine) (offset : ℕ) (answer : Result Response BookFault) → line_of_answer offset (told_line line answer) ≡ None → ⊥
+answer_said : (line : Response → PlainLine) (offset : ℕ) (answer : Result Response BookFault) → line_of_answer offset (response_line line answer) ≡ None → ⊥
 answer_said line offset (Ok response) n = cc
 answer_said line offset (Err f) n = cc
 

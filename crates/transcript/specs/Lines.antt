@@ -1,5 +1,5 @@
 -- What the bench says of each record, worked with a book.
-use Rattle.std.specs.Prelude.{ℕ, ◌*◌, zero, suc, Bool, false, List, take, replicate, Some, None, Ok, Err}
+use Rattle.std.specs.Prelude.{ℕ, ◌*◌, zero, suc, Bool, false, List, take, Some, None, Ok, Err}
 use Rattle.std.specs.Prelude.{codes, Option, Result}
 use Rattle.std.specs.Result.{result_map_both}
 use Rattle.layout.specs.declared.fault.ReadFault.{ReadFault}
@@ -9,8 +9,8 @@ use Rattle.layout.specs.Reading.{read_answer}
 use Rattle.book.specs.declared.fault.BookFault.TheVariants.{Read}
 use Rattle.book.specs.declared.tick.Entry.{Entry}
 use Rattle.book.specs.Book.{View, empty_book}
-use Rattle.book.specs.Outcomes.{Outcome, accepted}
-use Rattle.book.specs.Ticks.{entries_of, grants_of}
+use Rattle.book.specs.Outcomes.{Outcome, accepted_outcome}
+use Rattle.book.specs.Ticks.{no_entries, entries_of, grants_of}
 use Rattle.life.specs.declared.Response.{Response}
 use Rattle.life.specs.declared.Response.TheVariants.{Offered as WasOffered, Struck as WasStruck, Served}
 use Rattle.life.specs.Requests.{request_of, request_outcome}
@@ -39,10 +39,6 @@ plain_line (Struck ticket) = struck ticket
 plain_line (Ticked t) = plain_tick t
 plain_line (Refused offset f) = refused offset f
 
--- the list that a tick writes into
-abbrev pub no_entries : List Entry
-no_entries = replicate 64 (record { ticket = 0; units = 0 })
-
 -- the line of a record that the book does not refuse, by the response, where b is the book before
 abbrev pub line_for : View → Content → Response → PlainLine
 line_for b c (WasOffered t) = offered t (shown_label (label_of c) (codes "house"))
@@ -62,7 +58,7 @@ content_outcome b c =
 
 -- a record that was read, or none at the end of the input, with a book
 abbrev pub read_outcome : View → Result (Option Content) ReadFault → RecordOutcome
-read_outcome b (Ok None) = accepted None b tt
+read_outcome b (Ok None) = accepted_outcome None b tt
 read_outcome b (Ok (Some c)) = content_outcome b c
 read_outcome b (Err e) = record { answer = Err (Book (Read e)); book = b; list = tt }
 

@@ -49,7 +49,15 @@ impl<'a> Model for Bench<'a> {
 }
 
 impl<'a> Bench<'a> {
-    /// A bench at the start of the input, with a book at 0 with top 4.
+    /// A bench at the start of the input, with an empty book, now 0 and top 4.
+    ///
+    /// ```text
+    /// // record_tests: examples::of_a_bench
+    /// // A tick: no job is open, so the setting is 0.
+    /// let mut bench = Bench::new(b"T\0\0\0\0\0\0\0\0\0\0\0\0\0\0\0\0\0      ");
+    /// bench.next() // a line that prints `T 0 0`
+    /// bench.next() // None
+    /// ```
     pub fn new(input: &'a [u8]) -> Bench<'a>
         ensures { result ≡ start_run input.now }
     {

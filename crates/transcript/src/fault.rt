@@ -43,6 +43,12 @@ impl From<BenchFault> for Refusal {
 
 impl BenchFault {
     /// Whether the fault ends the run: no record can follow a cut one.
+    ///
+    /// ```text
+    /// // record_tests: examples::of_the_end_of_a_run
+    /// BenchFault::from(ReadFault::Cut { offset: 24 }).ends_run()          // true
+    /// BenchFault::from(ReadFault::UnknownKind { offset: 24 }).ends_run()  // false
+    /// ```
     pub fn ends_run(self) -> bool
         ensures { result ≡ ends_run self }
     {

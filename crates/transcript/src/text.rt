@@ -14,6 +14,13 @@ pub struct Transcript<'a> {
 
 impl<'a> Transcript<'a> {
     /// The transcript of these records.
+    ///
+    /// ```text
+    /// // record_tests: examples::of_a_transcript
+    /// // A strike of ticket 7, and two bytes more.
+    /// let text = Transcript::of(b"S\0\0\x07\0\0\0\0\0\0\0\0\0\0\0\0\0\0      T\0");
+    /// println!("{text}"); // R 0 9 7, then R 24 1 24
+    /// ```
     pub fn of(input: &'a [u8]) -> Transcript<'a>
         ensures { result.input.now ≡ input.now }
     {

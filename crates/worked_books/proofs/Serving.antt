@@ -1,4 +1,4 @@
--- What a tick serves, from the first setting in force and the shares at that setting.
+-- What a tick serves, from the first setting in force and the grants at that setting.
 use Rattle.std.proofs.Common.{◌≡◌, ℕ, ◌==◌, false, List, length, drop, Ok, ◌∙◌, ap}
 use Rattle.std.proofs.Math.Seq.{take-append_seam}
 use Rattle.book.specs.declared.tick.Entry.{Entry}

@@ -15,17 +15,17 @@ use Rattle.book.specs.Blocks.{book_blocks}
 use Rattle.worked_books.specs.Words.{Sets, HasBlocks}
 
 -- the settings in force stand in the first elements of a list that they are written into
-first_places : (b : View) (list : List ℕ) → Same horizon (listed (list_with_settings b list)) (settings_of b)
-first_places b list t lt =
-    let places = map (settings_of b) (range_with_len 0 horizon) in
-    get_or_append_left places (drop horizon list) 0 t (omega (arith, length-map-range_with_len (settings_of b) 0 horizon))
+first_elements : (b : View) (list : List ℕ) → Same horizon (listed (list_with_settings b list)) (settings_of b)
+first_elements b list t lt =
+    let written = map (settings_of b) (range_with_len 0 horizon) in
+    get_or_append_left written (drop horizon list) 0 t (omega (arith, length-map-range_with_len (settings_of b) 0 horizon))
     ∙ get_or-map-range_with_len (settings_of b) 0 horizon t t 0 lt (omega arith)
 
 -- so settings writes what the settings in force are
 pub sets : (b : View) (xs : List ℕ) → Same horizon (settings_of b) (listed xs) → Sets b xs
 sets b xs same = record {
   answer = λ list enough. rw enough refl;
-  written = λ list enough. rw enough (λ t lt. first_places b list t lt ∙ same t lt);
+  written = λ list enough. rw enough (λ t lt. first_elements b list t lt ∙ same t lt);
 }
 
 -- one setting at all ticks, as a list

@@ -52,7 +52,8 @@ pub record HasBlocks (b : View) (cs : List CriticalBlock) : Type 0 where
   pub answer : (list : List CriticalBlock) → length list ≡ 64 → (blocks_outcome b list).answer ≡ Ok (length cs)
   pub written : (list : List CriticalBlock) → length list ≡ 64 → take (length cs) (blocks_outcome b list).list ≡ cs
 
--- given a list of 64 elements, tick writes the entries es into the first elements, and answers the setting and their number
+-- given a list of 64 elements, tick writes the entries es into the first elements, and answers the setting and their
+-- number
 pub record TickServes (b : View) (setting : ℕ) (es : List Entry) : Type 0 where
   pub answer : (list : List Entry) → length list ≡ 64
       → (tick_outcome b list).answer ≡ Ok (record { setting = setting; count = length es })
