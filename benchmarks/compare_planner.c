@@ -71,14 +71,14 @@ static bool same_blocks(size_t sample) {
 void compare_planners(void) {
     static const struct contest settings = {"settings", SAMPLES, 1, make, proved_settings, c_settings, same_settings};
     static const struct contest blocks = {"blocks", SAMPLES, 1, make, proved_blocks, c_blocks, same_blocks};
-    static const struct kind plans[] = {
+    static const struct kind for_settings[] = {
         {"by chance", 8, 4}, {"by chance", 8, 255}, {"by chance", 64, 4},
         {"by chance", 64, 16}, {"by chance", 64, 255}, {"begun", 64, 16}};
     /* With so little work many pairs have as much of it to a tick. */
-    static const struct kind rounds[] = {
+    static const struct kind for_blocks[] = {
         {"by chance", 8, 4}, {"nested", 8, 255}, {"by chance", 64, 4}, {"begun", 64, 4}, {"nested", 64, 255}};
-    for (size_t i = 0; i < sizeof plans / sizeof plans[0]; i++)
-        compare(&settings, &plans[i]);
-    for (size_t i = 0; i < sizeof rounds / sizeof rounds[0]; i++)
-        compare(&blocks, &rounds[i]);
+    for (size_t i = 0; i < sizeof for_settings / sizeof for_settings[0]; i++)
+        compare(&settings, &for_settings[i]);
+    for (size_t i = 0; i < sizeof for_blocks / sizeof for_blocks[0]; i++)
+        compare(&blocks, &for_blocks[i]);
 }

@@ -123,7 +123,7 @@ uint32_t plain_settings(const struct planner_demand *demands, size_t count, stru
     return 0;
 }
 
-/* Which ticks are free, and the demands with units that are not yet allocated. */
+/* Which ticks are free, and the demands with units that are left. */
 struct rounds {
     bool free[TICKS];
     size_t count;

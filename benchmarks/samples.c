@@ -14,12 +14,12 @@ unsigned chance(unsigned bound) {
 }
 
 /* So many of the wanted units as find a tick of the window that has fewer than the top. */
-static unsigned scatter(unsigned *loads, unsigned from, unsigned to, unsigned wanted, unsigned top) {
+static unsigned scatter(unsigned *counts, unsigned from, unsigned to, unsigned wanted, unsigned top) {
     unsigned units = 0;
     for (; wanted > 0; wanted--) {
         unsigned tick = from + chance(to - from);
-        if (loads[tick] < top) {
-            loads[tick]++;
+        if (counts[tick] < top) {
+            counts[tick]++;
             units++;
         }
     }
@@ -27,13 +27,13 @@ static unsigned scatter(unsigned *loads, unsigned from, unsigned to, unsigned wa
 }
 
 void make_scattered(struct planner_demand *demands, size_t count, unsigned top, unsigned before) {
-    unsigned loads[TICKS] = {0};
+    unsigned counts[TICKS] = {0};
     unsigned mean = top * TICKS * 4 / 5 / (unsigned)count + 1;
     for (size_t i = 0; i < count;) {
         unsigned start = chance(TICKS);
         unsigned from = start < before ? 0 : start - before;
         unsigned to = from + 1 + chance(TICKS - from);
-        unsigned units = scatter(loads, from, to, 1 + chance(2 * mean), top);
+        unsigned units = scatter(counts, from, to, 1 + chance(2 * mean), top);
         if (units > 0)
             demands[i++] = (struct planner_demand){(uint16_t)from, (uint16_t)to, (uint16_t)units};
     }

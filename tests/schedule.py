@@ -27,26 +27,26 @@ cases =
 
 
 @dataclasses.dataclass(frozen=True)
-class Plan:
+class Case:
     """A small book, seen from now: the ticks ahead, the top, and the demands."""
     ticks: int
     top: int
     demands: list
 
 
-def plan(ticks, top, *demands):
-    return Plan(ticks, top, [Demand(*demand) for demand in demands])
+def case_of(ticks, top, *demands):
+    return Case(ticks, top, [Demand(*demand) for demand in demands])
 
 
 WORKED = [
-    plan(3, 4),
-    plan(3, 4, (0, 2, 3), (0, 3, 1)),
-    plan(3, 4, (2, 3, 1), (0, 3, 2)),
-    plan(1, 4, (0, 1, 2), (0, 1, 2)),
-    plan(1, 3, (0, 1, 2), (0, 1, 2)),
-    plan(4, 3, (0, 4, 11), (2, 4, 4)),
-    plan(4, 2, (0, 4, 4), (1, 2, 5)),
-    plan(4, 2, (3, 4, 2), (0, 1, 2), (1, 2, 2)),
+    case_of(3, 4),
+    case_of(3, 4, (0, 2, 3), (0, 3, 1)),
+    case_of(3, 4, (2, 3, 1), (0, 3, 2)),
+    case_of(1, 4, (0, 1, 2), (0, 1, 2)),
+    case_of(1, 3, (0, 1, 2), (0, 1, 2)),
+    case_of(4, 3, (0, 4, 11), (2, 4, 4)),
+    case_of(4, 2, (0, 4, 4), (1, 2, 5)),
+    case_of(4, 2, (3, 4, 2), (0, 1, 2), (1, 2, 2)),
 ]
 
 
@@ -58,14 +58,14 @@ def by_chance(chance):
         start = chance.randrange(ticks)
         end = chance.randrange(start + 1, ticks + 1)
         demands.append(Demand(start, end, chance.randrange(1, 2 + top * (end - start) // 2)))
-    return Plan(ticks, top, demands)
+    return Case(ticks, top, demands)
 
 
-def plans():
+def cases():
     """The worked books and 56 by chance, the demands of each in order of deadline."""
     chance = random.Random(256)
-    for small in WORKED + [by_chance(chance) for _ in range(56)]:
-        yield Plan(small.ticks, small.top, sorted(small.demands, key=lambda demand: demand.end))
+    for case in WORKED + [by_chance(chance) for _ in range(56)]:
+        yield Case(case.ticks, case.top, sorted(case.demands, key=lambda demand: demand.end))
 
 
 @functools.lru_cache(None)
@@ -76,34 +76,34 @@ def rows(ticks, units):
     return [(first, *rest) for first in range(units + 1) for rest in rows(ticks - 1, units - first)]
 
 
-def given(load, start, row):
+def given(counts, start, row):
     """What the ticks have once those from the start on have got this row too."""
     end = start + len(row)
-    return load[:start] + tuple(map(int.__add__, load[start:end], row)) + load[end:]
+    return counts[:start] + tuple(map(int.__add__, counts[start:end], row)) + counts[end:]
 
 
-def loads(ticks, demands):
+def exact_lists(ticks, demands):
     """What each sharing gives the ticks: the exact lists."""
     found = {(0,) * ticks}
     for demand in demands:
         ways = rows(demand.end - demand.start, demand.units)
-        found = {given(load, demand.start, row) for load in found for row in ways}
+        found = {given(counts, demand.start, row) for counts in found for row in ways}
     return found
 
 
-def squares(load):
-    return sum(units * units for units in load)
+def squares(counts):
+    return sum(units * units for units in counts)
 
 
 def in_force(exact):
     """The least sum of squares; among several, the greater at the first tick where they differ."""
     least = min(map(squares, exact))
-    return max(load for load in exact if squares(load) == least)
+    return max(counts for counts in exact if squares(counts) == least)
 
 
 def does(settings, exact):
     """Whether some sharing gives no tick more units than its setting."""
-    return any(all(units <= setting for units, setting in zip(load, settings)) for load in exact)
+    return any(all(units <= setting for units, setting in zip(counts, settings)) for counts in exact)
 
 
 def work_inside(demands, start, end):
@@ -164,23 +164,23 @@ def blocks(ticks, demands):
     return found
 
 
-def answers(small):
+def answers(case):
     """What the search finds for a small book."""
-    exact = loads(small.ticks, small.demands)
-    lists = itertools.product(range(small.top + 1), repeat=small.ticks)
+    exact = exact_lists(case.ticks, case.demands)
+    lists = itertools.product(range(case.top + 1), repeat=case.ticks)
     able = [settings for settings in lists if does(settings, exact)]
     settings = in_force(exact)
-    got = served(settings[0], small.demands)
-    overload = first_overload(small.top, small.demands)
+    got = served(settings[0], case.demands)
+    overload = first_overload(case.top, case.demands)
     return {
         'overload': dataclasses.astuple(overload) if overload else (),
         'able': len(able),
         'exact': sum(settings in exact for settings in able),
         'settings': settings,
         'served': got,
-        'left': [dataclasses.astuple(demand) for demand in left(small.demands, got)],
+        'left': [dataclasses.astuple(demand) for demand in left(case.demands, got)],
         'draws': draws(able),
-        'blocks': [dataclasses.astuple(block) for block in blocks(small.ticks, small.demands)],
+        'blocks': [dataclasses.astuple(block) for block in blocks(case.ticks, case.demands)],
     }
 
 
@@ -193,13 +193,13 @@ def shown(value):
     return str(value) if isinstance(value, int) else listed(value)
 
 
-def case(small):
-    """The lines of a small book and of what is found for it."""
-    demands = listed(f'job {demand.start} {demand.end} {demand.units}' for demand in small.demands)
-    found = [f'        {name} = {shown(value)};' for name, value in answers(small).items()]
+def case_lines(case):
+    """The lines of a case and of what is found for it."""
+    demands = listed(f'job {demand.start} {demand.end} {demand.units}' for demand in case.demands)
+    found = [f'        {name} = {shown(value)};' for name, value in answers(case).items()]
     return [
         '    record {',
-        f'      book = record {{ ticks = {small.ticks}; top = {small.top}; demands = {demands} }};',
+        f'      book = record {{ ticks = {case.ticks}; top = {case.top}; demands = {demands} }};',
         '      found = record {',
         *found,
         '      };',
@@ -209,7 +209,7 @@ def case(small):
 
 def text():
     """The file of all cases."""
-    return HEADER + ''.join(line + '\n' for small in plans() for line in case(small)) + '    []\n'
+    return HEADER + ''.join(line + '\n' for case in cases() for line in case_lines(case)) + '    []\n'
 
 
 def stored():

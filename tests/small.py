@@ -10,8 +10,8 @@ from rules import HORIZON
 
 
 @functools.lru_cache(100)
-def loads(ticks, demands):
-    return schedule.loads(ticks, demands)
+def exact_lists(ticks, demands):
+    return schedule.exact_lists(ticks, demands)
 
 
 class SmallBook(Book):
@@ -20,11 +20,11 @@ class SmallBook(Book):
     def exact(self, demands):
         """The ticks up to the last deadline, and what each sharing gives them. All others get nothing."""
         ticks = max([1, *(demand.end for demand in demands)])
-        return ticks, loads(ticks, tuple(sorted(demands)))
+        return ticks, exact_lists(ticks, tuple(sorted(demands)))
 
     def within_top(self, demands):
         ticks, exact = self.exact(demands)
-        return ticks, [load for load in exact if max(load) <= self.top]
+        return ticks, [settings for settings in exact if max(settings) <= self.top]
 
     def overload(self, demands):
         found = schedule.first_overload(self.top, demands)
@@ -51,7 +51,7 @@ def is_answered_alike(small):
     enough = sum(demand.units for demand in small.demands)
     overload = book.first_overload(small.top, small.demands)
     settings = book.settings_in_force(small.ticks, enough if overload else small.top, tuple(small.demands))
-    return (settings == schedule.in_force(schedule.loads(small.ticks, small.demands))
+    return (settings == schedule.in_force(schedule.exact_lists(small.ticks, small.demands))
             and overload == schedule.first_overload(small.top, small.demands)
             and book.blocks(small.ticks, small.demands) == schedule.blocks(small.ticks, small.demands))
 

@@ -5,7 +5,7 @@ use Rattle.std.specs.List.{copy_within, insert, remove}
 use Rattle.std.proofs.lemmas.List.{take-take, drop-take, take_more_set, set-append_left, length-drop, length-take-le}
 use Rattle.std.proofs.lemmas.List.Edits.{take-paste}
 
--- the elements from i + 1 to n move down by one place, over the one at i
+-- the elements from i + 1 to n move down by one index, over the one at i
 pub take_removed : {X : Type 0} (xs : List X) (n i : ℕ) → i < n → n ≤ length xs → take (n - 1) (copy_within xs (i + 1) n i) ≡ remove (take n xs) i
 take_removed xs n i lt le =
     let k = n - (i + 1) in
@@ -20,7 +20,7 @@ take_removed xs n i lt le =
     ap (λ m. take m (copy_within xs (i + 1) n i)) less ∙ moved ∙ ap (λ m. take i xs ++ take k (drop m xs)) one
     ∙ sym (ap (λ ys. ys ++ drop (suc i) (take n xs)) front ∙ ap (λ ys. take i xs ++ ys) back)
 
--- the elements from i to n move up by one place, and y goes to i
+-- the elements from i to n move up by one index, and y goes to i
 pub take_inserted : {X : Type 0} (xs : List X) (n i : ℕ) (y : X) → i ≤ n → n < length xs → take (n + 1) (set (copy_within xs i n (i + 1)) i y) ≡ insert (take n xs) i y
 take_inserted xs n i y le lt =
     let k = n - i in

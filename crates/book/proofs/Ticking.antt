@@ -153,7 +153,7 @@ module _ (places old : List Job) (count index : ℕ) (d : Job) (lt : index < len
       ap (filter has_work) (take-suc old index d lt_old) ∙ filter-append has_work (take index old) (get_or old index d ∷ [])
       ∙ ap (λ zs. filter has_work (take index old) ++ zs) (ap (λ j. filter has_work (j ∷ [])) (sym here) ∙ e)
 
-  -- a job with work left moves up to the count
+  -- a job with work left moves to the index `count`
   pub kept : has_work (get_or places index d) ≡ true → count ≤ index → take count places ≡ filter has_work (take index old)
       → (take (count + 1) (set places count (get_or places index d)) ≡ filter has_work (take (index + 1) old))
       × (drop (index + 1) (set places count (get_or places index d)) ≡ drop (index + 1) old)

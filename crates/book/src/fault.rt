@@ -6,7 +6,7 @@ ghost use Rattle.book.specs.Refusals.{book_refusal};
 use layout::ReadFault;
 use refusal::{Layer, Refusal, Values};
 
-/// The fields that the book checks, by the numbers that a refusal tells them by.
+/// The fields that the book checks, by the numbers that a refusal gives them.
 #[derive(Clone, Copy, PartialEq, Eq, Debug)]
 pub enum BookField {
     /// The ticket of an offered job: 1 to 65535.

@@ -132,8 +132,8 @@ impl Table {
         serve(&mut self.places[..self.count], now, setting, list)
     }
 
-    // Removes the jobs that have no work left. The others move up by index within the table, since its places are
-    // fixed and there is no heap.
+    // Removes the jobs that have no work left. By index, since the others move within the table: its places are fixed,
+    // and there is no heap.
     pub(super) fn close_done(&mut self)
         ensures { self.new ≡ filter has_work self.old }
     {

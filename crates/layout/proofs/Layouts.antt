@@ -10,12 +10,12 @@ find-enumerate : (k : Kind) (i : ℕ) (bs : List ℕ) → option_map (λ p. p.0)
 find-enumerate k i [] = refl
 find-enumerate k i (b ∷ bs) = let rest = find-enumerate k (i + 1) bs in grind (arith, nat_tests)
 
--- the first forbidden index, of bytes that are taken with their indices
+-- the index of the first forbidden byte, of bytes that are taken with their indices
 pub find_forbidden : (k : Kind) (bs : List ℕ) → option_map (λ p. p.0) (find (λ p. not (is_allowed k p.0 p.1)) (drop 1 (enumerate_from 0 bs))) ≡ first_forbidden k 1 (drop 1 bs)
 find_forbidden k [] = refl
 find_forbidden k (b ∷ bs) = find-enumerate k 1 bs
 
--- a forbidden index is one of the bytes looked at
+-- the index of a forbidden byte is that of one of the bytes looked at
 pub forbidden_within : (k : Kind) (i : ℕ) (bs : List ℕ) (j : ℕ) → Some j ≡ first_forbidden k i bs → j < i + length bs
 forbidden_within k i [] j e = cc
 forbidden_within k i (b ∷ bs) j e = let rest = forbidden_within k (i + 1) bs j in grind (arith, nat_tests, rest)

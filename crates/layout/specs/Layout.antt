@@ -43,7 +43,7 @@ abbrev pub is_allowed : Kind → (i b : ℕ) → Bool
 is_allowed k i b =
     if nat_lt i 18 then (nat_le 2 i && nat_lt i (numbers_end k)) || b == 0 else is_label_byte k b
 
--- the number of the first byte that the layout forbids, of the bytes of a record from byte i on
+-- the index of the first byte that the layout forbids, of the bytes of a record from byte i on
 abbrev pub first_forbidden : Kind → (i : ℕ) → List ℕ → Option ℕ
 first_forbidden k i [] = None
 first_forbidden k i (b ∷ bs) = if is_allowed k i b then first_forbidden k (i + 1) bs else Some i

@@ -15,7 +15,7 @@ use queue::PlannedTick;
 fn allocate_demand(plan: &mut Plan, demand: &Demand)
     requires window { Windowed 256 demand.now }
     requires room { HasRoom 65535 (state_of plan.old) }
-    // As a number of 16 bits, which is not told by the model of a demand.
+    // As a number of 16 bits, which the model of a demand does not say.
     ensures units { demand.now.units ≤ 65535 }
     ensures filled { state_of plan.new ≡ fill demand.now.from demand.now.to demand.now.units (state_of plan.old) }
 {

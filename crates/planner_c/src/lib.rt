@@ -93,7 +93,8 @@ fn plannable<'a>(
 /// `found` is as it was then.
 ///
 /// - 1: there are more than 64 demands.
-/// - 2: a window is not within 256 ticks, or the demands are not in order of deadline.
+/// - 2: a demand with units has a window that is empty or ends after 256 ticks, or the demands are not in order of
+///   deadline.
 ///
 /// ```text
 /// // tests/planner_h.sh

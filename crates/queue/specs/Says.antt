@@ -24,7 +24,7 @@ pub record Removed {X : Type 0} (before : X → X → Bool) (x : X) (q r : Slots
 abbrev pub has_room : {X : Type 0} → Slots X → Bool
 has_room q = nat_lt q.count (length q.slots)
 
--- a put adds the element where a slot is free, and leaves all as it was elsewhere
+-- a put adds the element where a slot is free, and leaves all as it was otherwise
 abbrev pub PutLeaves : {X : Type 0} → X → Slots X → Slots X → Type 0
 PutLeaves x q r = MatchBool (has_room q) (Added x q r) (r ≡ q)
 

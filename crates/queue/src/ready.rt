@@ -48,7 +48,7 @@ impl ReadyQueue<'_> {
     ///
     /// # Refusals
     ///
-    /// - [`QueueFault::Full`]: every slot is taken; it is told as 10 and the slots that would be needed.
+    /// - [`QueueFault::Full`]: every slot is taken.
     ///
     /// ```text
     /// // queue_tests: examples::of_a_ready_queue

@@ -46,7 +46,7 @@ impl TickQueue<'_> {
     ///
     /// # Refusals
     ///
-    /// - [`QueueFault::Full`]: every slot is taken; it is told as 10 and the slots that would be needed.
+    /// - [`QueueFault::Full`]: every slot is taken.
     ///
     /// ```text
     /// // queue_tests: examples::of_a_tick_queue

@@ -24,7 +24,7 @@ use Rattle.schedule.specs.Examples.{Examples}
 use Rattle.schedule.specs.Answers.{answered, found_for}
 use Rattle.schedule.specs.Cases.{cases}
 
--- a sharing, read by the places of the demands in their list
+-- a sharing, read by the indices of the demands in their list
 pub record Readings : Type 0 where
   -- each demand has its row
   pub rows : (n : ℕ) (ds : List Demand) (x : ℕ → ℕ → ℕ) (none : Demand)

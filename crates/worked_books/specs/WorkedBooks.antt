@@ -8,7 +8,7 @@ use Rattle.worked_books.specs.Words.{job, Worked, Sets, HasBlocks, TickServes, O
 abbrev pub NoJob : Type 0
 NoJob = Worked 4 [] (λ b. Sets b [] × (bill_of (cube_draw 10 1) b ≡ 2560))
 
--- 2. [0, 2) 3 and [0, 3) 1: of the two settings that grant three units, the greater comes first
+-- 2. [0, 2) 3 and [0, 3) 1: of the two settings that do the first job's three units, the greater comes first
 abbrev pub Uneven : Type 0
 Uneven = Worked 4 (job 1 0 2 3 ∷ job 2 0 3 1 ∷ []) (λ b. Sets b (2 ∷ 1 ∷ 1 ∷ []))
 

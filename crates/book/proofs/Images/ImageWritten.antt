@@ -47,7 +47,7 @@ begun_more n at k b list r few lt index size is =
     ∙ sym (append_assoc front r (drop (24 * (n + 1)) list))
     ∙ ap (λ bs. bs ++ drop (24 * (n + 1)) list) (ap (λ x. front ++ x) is ∙ sym (joined_more n rs blank_record inside))
 
--- that of a index
+-- that of an index
 pub begun_place : (i at k : ℕ) (b : View) (list r : List ℕ) → length b.jobs ≤ 64 → i < 64 → at ≡ 24 * (1 + i) → k ≡ 24 → r ≡ get_or (map job_record b.jobs) i blank_record
     → put_mid at k (begun (1 + i) b list) r ≡ begun (1 + (i + 1)) b list
 begun_place i at k b list r few lt index size is =
