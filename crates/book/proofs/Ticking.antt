@@ -20,7 +20,7 @@ use Rattle.book.specs.declared.tick.Entry.{Entry}
 use Rattle.book.specs.Jobs.{is_before}
 use Rattle.book.specs.Demands.{demand, demands}
 use Rattle.book.specs.Book.{View, IsOpenAt, IsLawful}
-use Rattle.layout.specs.Jobs.{last_tick}
+use Rattle.layout.specs.declared.job.TheConstants.{LAST_TICK}
 use Rattle.book.specs.Settings.{settings_of}
 use Rattle.book.specs.Ticks.{grants, worked_job, entry_of, entries_of, has_work, grants_of, book_after_tick}
 use Rattle.book.proofs.DemandFacts.{sound-demands}
@@ -106,7 +106,7 @@ units_given now u (j ∷ js) =
 pub gives_setting : (b : View) → IsLawful b → sum_by (λ e. e.units) (entries_of (grants_of b)) ≡ settings_of b 0
 gives_setting b h = units_given b.now (settings_of b 0) b.jobs ∙ (law b h).gives
 
-pub lawful_after : (b : View) → IsLawful b → b.now ≢ last_tick → IsLawful (book_after_tick b)
+pub lawful_after : (b : View) → IsLawful b → b.now ≢ LAST_TICK → IsLawful (book_after_tick b)
 lawful_after b h more =
     let u = settings_of b 0 in
     let js = jobs_then b.now u b.jobs in

@@ -1,5 +1,6 @@
 -- What the call blocks answers, and what its list holds afterwards.
 use Rattle.std.specs.Prelude.{ℕ, ◌+◌, List, length, map}
+use Rattle.book.specs.declared.table.TheConstants.{PLACES}
 use Rattle.schedule.specs.InForce.{horizon}
 use Rattle.schedule.specs.Blocks.{blocks}
 use Rattle.planner.specs.declared.blocks.RelativeBlock.{RelativeBlock}
@@ -23,4 +24,4 @@ book_blocks b = map (λ c. block_in_time b.now (block_of c)) (blocks horizon (de
 abbrev pub blocks_outcome : View → List CriticalBlock → Outcome ℕ BookFault (List CriticalBlock)
 blocks_outcome b list =
     let found = book_blocks b in
-    outcome (short_fault 64 list) b list (accepted_outcome (length found) b (list_with found list))
+    outcome (short_fault PLACES list) b list (accepted_outcome (length found) b (list_with found list))

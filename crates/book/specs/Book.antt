@@ -1,10 +1,12 @@
 -- Books as callers see them, and which are lawful.
 use Rattle.std.specs.Prelude.{◌≡◌, ◌≢◌, ℕ, ◌+◌, ◌<◌, ◌≤◌, true, List, [], length, All}
 use Rattle.std.specs.List.{AllPairs}
+use Rattle.book.specs.declared.table.TheConstants.{PLACES}
+use Rattle.planner.specs.declared.demands.TheConstants.{HORIZON}
 use Rattle.schedule.specs.InForce.{horizon}
 use Rattle.schedule.specs.Overload.{NoneOverloaded}
 use Rattle.layout.specs.declared.job.Job.{Job}
-use Rattle.layout.specs.Jobs.{last_tick}
+use Rattle.layout.specs.declared.job.TheConstants.{LAST_TICK}
 use Rattle.book.specs.Jobs.{is_before}
 use Rattle.book.specs.Demands.{demands}
 
@@ -19,10 +21,10 @@ pub record IsOpenAt (now : ℕ) (j : Job) : Type 0 where
   pub some_ticket : 0 < j.ticket
   pub work_left : 0 < j.work
   pub not_due : now < j.deadline
-  pub in_sight : j.deadline ≤ now + 256
-  pub in_time : j.deadline ≤ last_tick
+  pub in_sight : j.deadline ≤ now + HORIZON
+  pub in_time : j.deadline ≤ LAST_TICK
   pub some_window : j.arrival < j.deadline
-  pub short_window : j.deadline ≤ j.arrival + 256
+  pub short_window : j.deadline ≤ j.arrival + HORIZON
 
 -- jobs in the order of serving
 abbrev pub IsInOrder : List Job → Type 0
@@ -30,10 +32,10 @@ IsInOrder jobs = AllPairs (λ j k. is_before j k ≡ true) jobs
 
 -- a well-formed book: lawful, but for overload
 pub record IsWellFormed (b : View) : Type 0 where
-  pub in_time : b.now ≤ last_tick
+  pub in_time : b.now ≤ LAST_TICK
   pub top_positive : 1 ≤ b.top
   pub top_within : b.top ≤ 255
-  pub few : length b.jobs ≤ 64
+  pub few : length b.jobs ≤ PLACES
   pub tickets_differ : AllPairs (λ j k. j.ticket ≢ k.ticket) b.jobs
   pub in_order : IsInOrder b.jobs
   pub jobs_open : All (IsOpenAt b.now) b.jobs

@@ -2,6 +2,8 @@
 -- fields.
 use Rattle.std.specs.Prelude.{ℕ, ◌+◌, ◌||◌, if◌then◌else◌, List, length, Some, None, Option, ◌==◌, nat_lt, nat_le}
 use Rattle.std.specs.Option.{option_map, option_or}
+use Rattle.book.specs.declared.table.TheConstants.{PLACES}
+use Rattle.planner.specs.declared.demands.TheConstants.{HORIZON}
 use Rattle.schedule.specs.InForce.{horizon}
 use Rattle.schedule.specs.Overload.{first_overload}
 use Rattle.schedule.specs.Work.{work}
@@ -14,7 +16,7 @@ use Rattle.book.specs.Jobs.{is_ticket_open, jobs_with, jobs_without}
 use Rattle.book.specs.Demands.{demands}
 use Rattle.book.specs.Outcomes.{Outcome, accepted_outcome, outcome}
 use Rattle.book.specs.Book.{View, empty_book, book_with_jobs}
-use Rattle.layout.specs.Jobs.{last_tick}
+use Rattle.layout.specs.declared.job.TheConstants.{LAST_TICK}
 
 -- the outcome of a call that brings no list and answers nothing but that it is done, where it leaves the book `after`
 abbrev pub plain_outcome : Option BookFault → (before after : View) → Outcome (Unit {0}) BookFault (Unit {0})
@@ -23,7 +25,7 @@ plain_outcome fault before after = outcome fault before tt (accepted_outcome tt 
 -- why a book is not opened
 abbrev pub open_fault : (start top : ℕ) → Option BookFault
 open_fault start top =
-    if nat_lt last_tick start then Some (Field Start) else
+    if nat_lt LAST_TICK start then Some (Field Start) else
     if top == 0 || nat_lt 255 top then Some (Field Top) else None
 
 -- open sets now and the top, and empties the book
@@ -43,7 +45,7 @@ abbrev pub field_fault : ℕ → Job → Option BookField
 field_fault now j =
     if j.ticket == 0 then Some Ticket else
     if nat_lt j.arrival now then Some Arrival else
-    if nat_le j.deadline j.arrival || (nat_lt (now + 256) j.deadline || nat_lt last_tick j.deadline)
+    if nat_le j.deadline j.arrival || (nat_lt (now + HORIZON) j.deadline || nat_lt LAST_TICK j.deadline)
     then Some Deadline else
     if j.work == 0 then Some Work else None
 
@@ -51,7 +53,7 @@ field_fault now j =
 abbrev pub place_fault : List Job → Job → Option BookFault
 place_fault jobs j =
     if is_ticket_open j.ticket jobs then Some (TicketOpen j.ticket) else
-    if nat_le 64 (length jobs) then Some (Full 64) else None
+    if nat_le PLACES (length jobs) then Some (Full PLACES) else None
 
 -- why an offer is refused before it is looked at for overload
 abbrev pub early_fault : View → Job → Option BookFault

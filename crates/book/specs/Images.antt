@@ -4,8 +4,13 @@ use Rattle.std.specs.Prelude.{map, drop, replicate, take_while, position, Some, 
 use Rattle.std.specs.Prelude.{nat_lt, slice_index, bytes_eq}
 use Rattle.std.specs.List.{range_with_len, flat_map, list_all}
 use Rattle.std.specs.Option.{option_map, option_or}
+use Rattle.book.specs.declared.image.TheConstants.{IMAGE_LEN, RECORDS}
+use Rattle.book.specs.declared.table.TheConstants.{PLACES}
+use Rattle.layout.specs.declared.kind.TheConstants.{RECORD_LEN}
+use Rattle.planner.specs.declared.demands.TheConstants.{HORIZON}
 use Rattle.layout.specs.BigEndian.{part}
-use Rattle.layout.specs.Jobs.{job_in, last_tick, record_bytes}
+use Rattle.layout.specs.Jobs.{job_in, record_bytes}
+use Rattle.layout.specs.declared.job.TheConstants.{LAST_TICK}
 use Rattle.layout.specs.declared.job.Job.{Job}
 use Rattle.book.specs.declared.fault.BookFault.{BookFault}
 use Rattle.book.specs.declared.fault.BookFault.TheVariants.{Image}
@@ -27,11 +32,11 @@ job_record j = record_bytes 0x4a j (replicate 6 0)
 
 -- a record that stands for no job
 abbrev pub blank_record : List ℕ
-blank_record = replicate 24 0
+blank_record = replicate RECORD_LEN 0
 
 -- the records of a book: its now and top, then the open jobs in the order of serving, and blank ones for the rest
 abbrev pub image_records : View → List (List ℕ)
-image_records b = clock_record b.now b.top ∷ (map job_record b.jobs ++ replicate (64 - length b.jobs) blank_record)
+image_records b = clock_record b.now b.top ∷ (map job_record b.jobs ++ replicate (PLACES - length b.jobs) blank_record)
 
 -- their bytes
 abbrev pub image : View → List ℕ
@@ -39,11 +44,12 @@ image b = flat_map (λ r. r) (image_records b)
 
 -- save writes the image into the first elements of the list
 abbrev pub save_outcome : View → List ℕ → Outcome (Unit {0}) BookFault (List ℕ)
-save_outcome b list = outcome (short_fault 1560 list) b list (accepted_outcome tt b (image b ++ drop 1560 list))
+save_outcome b list =
+    outcome (short_fault IMAGE_LEN list) b list (accepted_outcome tt b (image b ++ drop IMAGE_LEN list))
 
 -- the record k of a list
 abbrev pub record_in : List ℕ → ℕ → List ℕ
-record_in list k = part (24 * k) 24 list
+record_in list k = part (RECORD_LEN * k) RECORD_LEN list
 
 -- the now and the top that a record says: they stand where a job has its arrival and its work
 abbrev pub now_in : List ℕ → ℕ
@@ -54,7 +60,7 @@ top_in r = (job_in r).work
 
 -- the records after the first
 abbrev pub later_records : List ℕ → List (List ℕ)
-later_records list = map (record_in list) (range_with_len 1 64)
+later_records list = map (record_in list) (range_with_len 1 PLACES)
 
 -- whether a record stands for a job
 abbrev pub is_job_record : List ℕ → Bool
@@ -72,8 +78,8 @@ book_in list = record {
 abbrev pub can_be_open : ℕ → Job → Bool
 can_be_open now j =
     nat_lt 0 j.ticket && (nat_lt 0 j.work
-    && (nat_lt now j.deadline && (nat_le j.deadline (now + 256) && (nat_le j.deadline last_tick
-    && (nat_lt j.arrival j.deadline && nat_le j.deadline (j.arrival + 256))))))
+    && (nat_lt now j.deadline && (nat_le j.deadline (now + HORIZON) && (nat_le j.deadline LAST_TICK
+    && (nat_lt j.arrival j.deadline && nat_le j.deadline (j.arrival + HORIZON))))))
 
 -- whether a record is that of some now and top
 abbrev pub is_clock : List ℕ → Bool
@@ -108,12 +114,13 @@ first_wrong list =
 
 -- an overload is told as the number after the last record
 abbrev pub overload_record : View → Option ℕ
-overload_record b = option_map (λ ab. 65) (first_overload_of b)
+overload_record b = option_map (λ ab. RECORDS) (first_overload_of b)
 
 -- why an image is not loaded
 abbrev pub load_fault : List ℕ → Option BookFault
 load_fault list =
-    option_or (short_fault 1560 list) (option_map Image (option_or (first_wrong list) (overload_record (book_in list))))
+    option_or (short_fault IMAGE_LEN list)
+    (option_map Image (option_or (first_wrong list) (overload_record (book_in list))))
 
 -- load makes the book that of an image
 abbrev pub load_outcome : View → List ℕ → Outcome (Unit {0}) BookFault (Unit {0})

@@ -1,6 +1,8 @@
 -- What save and load mean: load accepts the images of lawful books, and no others.
 use Rattle.std.specs.Prelude.{◌≡◌, ℕ, ◌+◌, ◌*◌, ◌<◌, ◌↔◌, List, length, take, slice_index_or, Ok, Err, Result}
 use Rattle.std.specs.Prelude.{All, IsOk}
+use Rattle.book.specs.declared.image.TheConstants.{IMAGE_LEN, RECORDS}
+use Rattle.layout.specs.declared.kind.TheConstants.{RECORD_LEN}
 use Rattle.schedule.specs.InForce.{horizon}
 use Rattle.schedule.specs.Overload.{NoneOverloaded}
 use Rattle.layout.specs.declared.job.Job.{Job}
@@ -21,11 +23,12 @@ AreSized b = All IsSized b.jobs
 
 -- the first bytes of the list are the image of the book
 abbrev pub Shows : List ℕ → View → Type 0
-Shows list b = take 1560 list ≡ image b
+Shows list b = take IMAGE_LEN list ≡ image b
 
 -- some well-formed book has an image with the same first k records as the list
 abbrev pub CanBegin : ℕ → List ℕ → Type 0
-CanBegin k list = (b : View) × IsWellFormed b × AreSized b × (take (24 * k) list ≡ take (24 * k) (image b))
+CanBegin k list =
+    (b : View) × IsWellFormed b × AreSized b × (take (RECORD_LEN * k) list ≡ take (RECORD_LEN * k) (image b))
 
 -- the record k is the first that no image of a well-formed book has after those before it
 pub record IsFirstWrong (k : ℕ) (list : List ℕ) : Type 0 where
@@ -40,9 +43,9 @@ pub record OnlyImages (list : List ℕ) (answer : Result (Unit {0}) BookFault) (
   -- image of the book afterwards
   pub same : (b : View) → IsLawful b → AreSized b → Shows list b → after ≡ b
   -- the record that a refusal names is the first wrong one
-  pub named : (k : ℕ) → answer ≡ Err (Image k) → k < 65 → IsFirstWrong k list
+  pub named : (k : ℕ) → answer ≡ Err (Image k) → k < RECORDS → IsFirstWrong k list
   -- or overload alone is wrong
-  pub overloaded : answer ≡ Err (Image 65) → (b : View) × IsWellFormed b × AreSized b × Shows list b
+  pub overloaded : answer ≡ Err (Image RECORDS) → (b : View) × IsWellFormed b × AreSized b × Shows list b
       × (NoneOverloaded horizon (demands b.now b.jobs) b.top → ⊥)
   -- there is no number after that
   pub numbered : (k : ℕ) → answer ≡ Err (Image k) → k < 66

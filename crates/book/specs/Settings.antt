@@ -1,6 +1,7 @@
 -- What the call settings answers, and what its list holds afterwards.
 use Rattle.std.specs.Prelude.{ℕ, ◌++◌, List, map, drop}
 use Rattle.std.specs.List.{range_with_len}
+use Rattle.planner.specs.declared.demands.TheConstants.{HORIZON}
 use Rattle.schedule.specs.InForce.{horizon, settings_in_force}
 use Rattle.book.specs.declared.fault.BookFault.{BookFault}
 use Rattle.book.specs.Demands.{demands}
@@ -18,4 +19,4 @@ list_with_settings b list = map (settings_of b) (range_with_len 0 horizon) ++ dr
 
 -- settings writes the settings in force into the first elements of the list
 abbrev pub settings_outcome : View → List ℕ → Outcome (Unit {0}) BookFault (List ℕ)
-settings_outcome b list = outcome (short_fault 256 list) b list (accepted_outcome tt b (list_with_settings b list))
+settings_outcome b list = outcome (short_fault HORIZON list) b list (accepted_outcome tt b (list_with_settings b list))

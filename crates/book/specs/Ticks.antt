@@ -3,9 +3,11 @@ use Rattle.std.specs.Prelude.{◌≡◌, ℕ, ◌+◌, Bool, if◌then◌else◌
 use Rattle.std.specs.Prelude.{Ok, Err, Option, Result, ◌==◌, nat_lt}
 use Rattle.std.specs.Option.{option_or}
 use Rattle.std.specs.List.{filter, zip}
+use Rattle.book.specs.declared.table.TheConstants.{PLACES}
 use Rattle.schedule.specs.Edf.{serve}
 use Rattle.layout.specs.declared.job.Job.{Job}
-use Rattle.layout.specs.Jobs.{job_after, last_tick}
+use Rattle.layout.specs.Jobs.{job_after}
+use Rattle.layout.specs.declared.job.TheConstants.{LAST_TICK}
 use Rattle.book.specs.declared.fault.BookFault.{BookFault}
 use Rattle.book.specs.declared.fault.BookFault.TheVariants.{LastTick}
 use Rattle.book.specs.declared.tick.Entry.{Entry}
@@ -18,7 +20,7 @@ use Rattle.book.specs.Settings.{settings_of}
 
 -- a list for the entries of a tick, in which none is written yet
 abbrev pub no_entries : List Entry
-no_entries = replicate 64 (record { ticket = 0; units = 0 })
+no_entries = replicate PLACES (record { ticket = 0; units = 0 })
 
 -- each job with what it gets of u units at now, in the order of serving
 abbrev pub grants : ℕ → ℕ → List Job → List (Job × ℕ)
@@ -50,7 +52,7 @@ book_after_tick b = record { now = b.now + 1; top = b.top; jobs = filter has_wor
 -- why a tick is refused
 abbrev pub tick_fault : View → List Entry → Option BookFault
 tick_fault b list =
-    option_or (short_fault 64 list) (if b.now == last_tick then Some (LastTick b.now) else None)
+    option_or (short_fault PLACES list) (if b.now == LAST_TICK then Some (LastTick b.now) else None)
 
 -- a tick serves the open jobs: it answers its setting and the count of entries, which stand in the first elements of
 -- the list

@@ -3,7 +3,7 @@ ghost use Rattle.std.specs.Prelude.{◌≡◌, ◌≤◌, ◌++◌, length, map,
 ghost use Rattle.schedule.specs.InForce.{horizon};
 ghost use Rattle.schedule.specs.Theory.{Blocked};
 ghost use Rattle.book.specs.Demands.{demands};
-ghost use Rattle.layout.specs.Jobs.{last_tick};
+ghost use Rattle.layout.specs.declared.job.TheConstants.{LAST_TICK};
 ghost use Rattle.book.specs.Blocks.{block_in_time, blocks_outcome};
 
 use super::book::Book;
@@ -26,7 +26,7 @@ pub struct CriticalBlock {
 impl CriticalBlock {
     // A block of the planner, whose ticks count from now.
     fn in_time(block: &RelativeBlock, now: u64) -> CriticalBlock
-        requires { now ≤ last_tick }
+        requires { now ≤ LAST_TICK }
         ensures { result ≡ block_in_time now block.now }
     {
         CriticalBlock {
@@ -39,7 +39,7 @@ impl CriticalBlock {
 
 // Writes blocks of the planner into the first elements of the list, and answers how many there are.
 fn write(blocks: &[RelativeBlock], now: u64, list: &mut [CriticalBlock]) -> usize
-    requires in_time { now ≤ last_tick }
+    requires in_time { now ≤ LAST_TICK }
     requires room { length blocks.now ≤ length list.old }
     ensures list { list.new ≡ map (block_in_time now) blocks.now ++ drop (length blocks.now) list.old }
     ensures count { result ≡ length blocks.now }

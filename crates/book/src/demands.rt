@@ -22,7 +22,7 @@ fn demand_of(job: &Job, now: u64) -> Demand
 
 // What the jobs demand, written into these.
 pub(super) fn demands_of<'a>(list: &'a mut [Demand; PLACES], jobs: &[Job], now: u64) -> Demands<'a>
-    requires few { length jobs.now ≤ 64 }
+    requires few { length jobs.now ≤ PLACES }
     requires in_order { IsInOrder jobs.now }
     requires open { All (IsOpenAt now) jobs.now }
     ensures { result ≡ demands now jobs.now }

@@ -2,7 +2,6 @@
 ghost use Rattle.std.specs.Prelude.{◌≡◌, ◌≤◌};
 ghost use Rattle.book.specs.Jobs.{is_before};
 ghost use Rattle.book.specs.Demands.{demand};
-ghost use Rattle.layout.specs.Jobs.{last_tick};
 ghost use Rattle.book.specs.Outcomes.{ok_unless};
 ghost use Rattle.book.specs.Calls.{field_fault};
 
@@ -35,7 +34,7 @@ pub(super) fn window_to(job: &Job, now: u64) -> u64
 
 // Whether each field has a value that an offered job can have at now; if not, the first that has none.
 pub(super) fn check_fields(job: &Job, now: u64) -> Result<(), BookField>
-    requires { now ≤ last_tick }
+    requires { now ≤ LAST_TICK }
     ensures { result ≡ ok_unless (field_fault now job.now) tt }
 {
     if job.ticket == 0 {

@@ -1,11 +1,12 @@
 // The book that an image says, and which record of it is wrong.
 ghost use Rattle.std.specs.Prelude.{◌≡◌, ◌≤◌, Some, None, [], length, if◌then◌else◌, map, take_while};
 ghost use Rattle.std.specs.Option.{option_map};
-ghost use Rattle.layout.specs.Jobs.{job_in, last_tick};
+ghost use Rattle.layout.specs.Jobs.{job_in};
 ghost use Rattle.book.specs.Images.{top_in, now_in, can_be_open, is_job_record, is_clock, is_next_job};
 ghost use Rattle.book.specs.Images.{first_wrong_later, load_fault, book_in};
 ghost use Rattle.book.specs.Outcomes.{ok_unless};
 ghost use Rattle.book.specs.Reading.{leading_jobs};
+ghost use Rattle.book.specs.declared.table.TheConstants.{PLACES};
 
 use super::book::Book;
 use super::fault::BookFault;
@@ -30,7 +31,7 @@ fn read_clock(bytes: &[u8; RECORD_LEN]) -> Option<(u64, u8)>
 
 // Whether the job can be open at now.
 fn can_be_open(job: &Job, now: u64) -> bool
-    requires { now ≤ last_tick }
+    requires { now ≤ LAST_TICK }
     ensures { result ≡ can_be_open now job.now }
 {
     job.ticket > 0
@@ -44,7 +45,7 @@ fn can_be_open(job: &Job, now: u64) -> bool
 
 // The job that the record says, where it can stand after those of the jobs.
 fn next_job(jobs: &Table, now: u64, bytes: &[u8; RECORD_LEN]) -> Option<Job>
-    requires { now ≤ last_tick }
+    requires { now ≤ LAST_TICK }
     ensures { result ≡ (if is_next_job now jobs.now bytes.now then Some (job_in bytes.now) else None) }
 {
     let job = Job::of_record(bytes);
@@ -59,8 +60,8 @@ fn next_job(jobs: &Table, now: u64, bytes: &[u8; RECORD_LEN]) -> Option<Job>
 
 // The jobs of the first records, as long as each is a next job.
 fn leading_jobs(records: &[[u8; RECORD_LEN]], now: u64) -> Table
-    requires in_time { now ≤ last_tick }
-    requires few { length records.now ≤ 64 }
+    requires in_time { now ≤ LAST_TICK }
+    requires few { length records.now ≤ PLACES }
     ensures { result ≡ leading_jobs now [] records.now }
 {
     let mut jobs = Table::new();
@@ -75,8 +76,8 @@ fn leading_jobs(records: &[[u8; RECORD_LEN]], now: u64) -> Table
 
 // The jobs of the records after the first.
 fn read_jobs(records: &[[u8; RECORD_LEN]], now: u64) -> Result<Table, BookFault>
-    requires in_time { now ≤ last_tick }
-    requires few { length records.now ≤ 64 }
+    requires in_time { now ≤ LAST_TICK }
+    requires few { length records.now ≤ PLACES }
     ensures { result ≡ ok_unless (option_map BookFault.Image (first_wrong_later now [] 1 records.now))
         (map job_in (take_while is_job_record records.now)) }
 {
@@ -136,7 +137,7 @@ impl Book {
     pub fn load(&mut self, list: &[u8]) -> Result<(), BookFault>
         ensures answer { result ≡ (load_outcome self.old list.now).answer }
         ensures after { self.new ≡ (load_outcome self.old list.now).book }
-        ensures only_images { 1560 ≤ length list.now → OnlyImages list.now result self.new }
+        ensures only_images { IMAGE_LEN ≤ length list.now → OnlyImages list.now result self.new }
     {
         *self = read_image(list)?;
         Ok(())

@@ -4,7 +4,7 @@ ghost use Rattle.schedule.specs.Compressed.{NonEmpty};
 ghost use Rattle.schedule.specs.InForce.{horizon};
 ghost use Rattle.schedule.specs.Overload.{starts, first_overload};
 ghost use Rattle.book.specs.Book.{IsOpenAt, IsInOrder};
-ghost use Rattle.layout.specs.Jobs.{last_tick};
+ghost use Rattle.layout.specs.declared.job.TheConstants.{LAST_TICK};
 ghost use Rattle.book.specs.Calls.{overload_fault};
 
 use super::demands::demands_of;
@@ -49,8 +49,8 @@ fn first_overload(demands: &Demands, top: u8) -> Option<(u16, u16)>
 
 // The fault of the first overloaded interval, whose ticks count from now.
 pub(super) fn overload_fault(jobs: &[Job], now: u64, top: u8) -> Option<BookFault>
-    requires in_time { now ≤ last_tick }
-    requires few { length jobs.now ≤ 64 }
+    requires in_time { now ≤ LAST_TICK }
+    requires few { length jobs.now ≤ PLACES }
     requires in_order { IsInOrder jobs.now }
     requires open { All (IsOpenAt now) jobs.now }
     ensures { result ≡ overload_fault (record { now = now; top = top; jobs = jobs.now }) }

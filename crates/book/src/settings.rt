@@ -14,7 +14,7 @@ use planner::{Demand, HORIZON};
 
 // The settings in force for open jobs.
 fn settings_in_force(jobs: &[Job], now: u64) -> [u32; HORIZON]
-    requires few { length jobs.now ≤ 64 }
+    requires few { length jobs.now ≤ PLACES }
     requires in_order { IsInOrder jobs.now }
     requires open { All (IsOpenAt now) jobs.now }
     ensures settings { Same horizon (listed result) (settings_in_force (demands now jobs.now)) }

@@ -28,12 +28,13 @@ pub(super) struct Table {
 impl Model for Table {
     ghost use Rattle.std.specs.Prelude.{◌≤◌, List, take};
     ghost use Rattle.layout.specs.declared.job.Job.{Job};
+    ghost use Rattle.book.specs.declared.table.TheConstants.{PLACES};
 
     ghost Value = { List Job };
 
     ghost view = { λ t. take t.count t.places };
 
-    ghost invariant = { λ t. t.count ≤ 64 };
+    ghost invariant = { λ t. t.count ≤ PLACES };
 }
 
 impl Table {
@@ -50,14 +51,14 @@ impl Table {
     // The jobs, in the order of serving.
     pub(super) fn jobs(&self) -> &[Job]
         ensures jobs { result.now ≡ self.now }
-        ensures few { length self.now ≤ 64 }
+        ensures few { length self.now ≤ PLACES }
     {
         &self.places[..self.count]
     }
 
     // Whether every place is taken.
     pub(super) fn is_full(&self) -> bool
-        ensures { result ≡ nat_le 64 (length self.now) }
+        ensures { result ≡ nat_le PLACES (length self.now) }
     {
         self.jobs().len() == PLACES
     }
@@ -85,7 +86,7 @@ impl Table {
 
     // The table with one more job, right before the first that is served after it.
     pub(super) fn with_job(&self, job: Job) -> Table
-        requires { length self.now < 64 }
+        requires { length self.now < PLACES }
         ensures { result ≡ jobs_with job self.now }
     {
         let index = self
@@ -104,7 +105,7 @@ impl Table {
 
     // Adds the job after all others.
     pub(super) fn push(&mut self, job: Job)
-        requires { length self.old < 64 }
+        requires { length self.old < PLACES }
         ensures { self.new ≡ self.old ++ (job ∷ []) }
     {
         self.places[self.count] = job;
@@ -122,7 +123,7 @@ impl Table {
 
     // Serves the jobs at now, with an entry for each that got units, and answers how many there are.
     pub(super) fn serve(&mut self, now: u64, setting: u8, list: &mut [Entry]) -> usize
-        requires room { 64 ≤ length list.old }
+        requires room { PLACES ≤ length list.old }
         requires in_order { IsInOrder self.old }
         requires open { All (IsOpenAt now) self.old }
         ensures jobs { self.new ≡ map worked_job (grants now setting self.old) }

@@ -33,7 +33,7 @@ pub struct Served {
 
 // The jobs whose windows have begun, in a queue in these slots.
 fn ready_jobs<'a>(slots: &'a mut [ReadyJob; PLACES], jobs: &[Job], now: u64) -> ReadyQueue<'a>
-    requires { length jobs.now ≤ 64 }
+    requires { length jobs.now ≤ PLACES }
     ensures { IsPermutation (ready_jobs now 0 jobs.now) (elements_of (slots_of result)) }
 {
     let mut ready = ReadyQueue::new(slots);
@@ -53,8 +53,8 @@ fn ready_jobs<'a>(slots: &'a mut [ReadyJob; PLACES], jobs: &[Job], now: u64) -> 
 // Serves the ready jobs until the setting is used up, with an entry for each that is served, and answers how many
 // there are.
 pub(super) fn serve(jobs: &mut [Job], now: u64, setting: u8, list: &mut [Entry]) -> usize
-    requires few { length jobs.old ≤ 64 }
-    requires room { 64 ≤ length list.old }
+    requires few { length jobs.old ≤ PLACES }
+    requires room { PLACES ≤ length list.old }
     requires in_order { IsInOrder jobs.old }
     requires open { All (IsOpenAt now) jobs.old }
     ensures jobs { jobs.new ≡ map worked_job (grants now setting jobs.old) }

@@ -3,10 +3,6 @@ use Rattle.std.specs.Prelude.{ℕ, ◌-◌, ◌^◌, ◌<◌, List, ◌∷◌, �
 use Rattle.layout.specs.declared.job.Job.{Job}
 use Rattle.layout.specs.BigEndian.{number, bytes, part}
 
--- the last tick of all, 2^48 - 1
-abbrev pub last_tick : ℕ
-last_tick = 0xffff_ffff_ffff
-
 -- a job whose ticket and work have the sizes of the code's fields
 pub record IsSized (j : Job) : Type 0 where
   pub ticket : j.ticket < 2 ^ 16

@@ -1,6 +1,7 @@
 -- What the reader answers.
 use Rattle.std.specs.Prelude.{ℕ, ◌+◌, ◌-◌, if◌then◌else◌, ◌==◌, nat_lt, List, length, drop, slice_index}
 use Rattle.std.specs.Prelude.{Some, None, Ok, Err, Option, Result}
+use Rattle.layout.specs.declared.kind.TheConstants.{RECORD_LEN}
 use Rattle.layout.specs.declared.fault.ReadFault.{ReadFault}
 use Rattle.layout.specs.declared.fault.ReadFault.TheVariants.{Cut, UnknownKind, Forbidden}
 use Rattle.layout.specs.declared.kind.Kind.{Kind}
@@ -38,12 +39,12 @@ some_content (Err e) = Err e
 abbrev pub read_answer : (input : List ℕ) (offset : ℕ) → Result (Option Content) ReadFault
 read_answer input offset =
     if length input - offset == 0 then Ok None else
-    if nat_lt (length input - offset) 24 then Err (Cut offset) else
-    some_content (parse_answer offset (part offset 24 input))
+    if nat_lt (length input - offset) RECORD_LEN then Err (Cut offset) else
+    some_content (parse_answer offset (part offset RECORD_LEN input))
 
 -- the offset afterwards: a whole record is passed over, good or bad; a cut one is not
 abbrev pub offset_after : (input : List ℕ) (offset : ℕ) → ℕ
-offset_after input offset = if nat_lt (length input - offset) 24 then offset else offset + 24
+offset_after input offset = if nat_lt (length input - offset) RECORD_LEN then offset else offset + RECORD_LEN
 
 -- where a reader is: its input, and the offset of the next record
 pub record Position : Type 0 where

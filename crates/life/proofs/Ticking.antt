@@ -6,7 +6,7 @@ use Rattle.schedule.proofs.Theory.{theory}
 use Rattle.book.specs.declared.fault.BookFault.{BookFault}
 use Rattle.book.specs.declared.tick.Entry.{Entry}
 use Rattle.book.specs.Book.{View}
-use Rattle.layout.specs.Jobs.{last_tick}
+use Rattle.layout.specs.declared.job.TheConstants.{LAST_TICK}
 use Rattle.book.specs.Settings.{settings_of}
 use Rattle.book.specs.declared.tick.Served.{Served}
 use Rattle.book.specs.Lists.{list_with}
@@ -21,7 +21,7 @@ use Rattle.life.proofs.Agreeing.{Agrees, Kept}
 use Rattle.life.proofs.Standing.{in_force_same}
 
 -- a tick that is not refused is before the last
-not_last : (b : View) (list : List Entry) → tick_fault b list ≡ None → b.now ≢ last_tick
+not_last : (b : View) (list : List Entry) → tick_fault b list ≡ None → b.now ≢ LAST_TICK
 not_last b list none last = grind (arith, nat_tests)
 
 module _ (t : Tally) (b : View) (list : List Entry) (agrees : Agrees t b) where
@@ -45,7 +45,7 @@ module _ (t : Tally) (b : View) (list : List Entry) (agrees : Agrees t b) where
   }
 
   -- the tally and the book after an accepted tick
-  agrees_later : b.now ≢ last_tick → Agrees (record { now = t.now + 1; top = t.top; rows = rows_after_entries es t.rows }) (book_after_tick b)
+  agrees_later : b.now ≢ LAST_TICK → Agrees (record { now = t.now + 1; top = t.top; rows = rows_after_entries es t.rows }) (book_after_tick b)
   agrees_later more = record {
     now = ap (λ n. n + 1) agrees.now;
     top = agrees.top;

@@ -13,7 +13,7 @@ use queue::PlannedTick;
 
 // Allocates the units of a demand, one after the other.
 fn allocate_demand(plan: &mut Plan, demand: &Demand)
-    requires window { Windowed 256 demand.now }
+    requires window { Windowed HORIZON demand.now }
     requires room { HasRoom 65535 (state_of plan.old) }
     // As a number of 16 bits, which the model of a demand does not say.
     ensures units { demand.now.units ≤ 65535 }

@@ -31,12 +31,13 @@ pub struct RelativeBlocks {
 impl Model for RelativeBlocks {
     ghost use Rattle.std.specs.Prelude.{◌≤◌, List, take};
     ghost use Rattle.planner.specs.declared.blocks.RelativeBlock.{RelativeBlock};
+    ghost use Rattle.planner.specs.declared.demands.TheConstants.{MOST_DEMANDS};
 
     ghost Value = { List RelativeBlock };
 
     ghost view = { λ b. take b.count b.blocks };
 
-    ghost invariant = { λ b. b.count ≤ 64 };
+    ghost invariant = { λ b. b.count ≤ MOST_DEMANDS };
 }
 
 impl RelativeBlocks {
@@ -52,7 +53,7 @@ impl RelativeBlocks {
 
     // One block more.
     fn push(&mut self, block: RelativeBlock)
-        requires { length self.old < 64 }
+        requires { length self.old < MOST_DEMANDS }
         ensures { self.new ≡ self.old ++ block ∷ [] }
     {
         self.blocks[self.count] = block;
@@ -67,7 +68,7 @@ impl RelativeBlocks {
     /// ```
     pub fn list(&self) -> &[RelativeBlock]
         ensures blocks { result.now ≡ self.now }
-        ensures few { length self.now ≤ 64 }
+        ensures few { length self.now ≤ MOST_DEMANDS }
     {
         &self.blocks[..self.count]
     }

@@ -61,7 +61,7 @@ impl Demand {
 // The work of the windows that lie inside the interval from low to high: each window's units once or not at all, with
 // no branch.
 pub(super) fn work_inside(windows: &[Demand], low: u16, high: u16) -> u32
-    requires { length windows.now ≤ 64 }
+    requires { length windows.now ≤ MOST_DEMANDS }
     ensures { result ≡ work windows.now low high }
 {
     windows

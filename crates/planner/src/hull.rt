@@ -1,6 +1,7 @@
 // The hull of a window: where one unit more of it can be allocated.
 ghost use Rattle.std.specs.Prelude.{◌≡◌, ◌<◌, ◌≤◌};
 ghost use Rattle.schedule.specs.Placing.{place_at, spot};
+ghost use Rattle.planner.specs.declared.demands.TheConstants.{HORIZON};
 
 use super::demands::HORIZON;
 use super::plan::Plan;
@@ -15,7 +16,7 @@ pub(super) struct Hull<'a> {
     start: usize,
     ticks: TickQueue<'a>,
     ghost proper: { from < to },
-    ghost in_sight: { to ≤ 256 },
+    ghost in_sight: { to ≤ HORIZON },
 }
 
 impl<'a> Hull<'a> {
@@ -30,7 +31,7 @@ impl<'a> Hull<'a> {
         to: usize,
     ) -> Hull<'a>
         requires proper { from < to }
-        requires in_sight { to ≤ 256 }
+        requires in_sight { to ≤ HORIZON }
         ensures hull { IsHull (state_of plan.now) result }
         ensures window { (result.from ≡ from) × (result.to ≡ to) }
     {

@@ -1,5 +1,6 @@
 // Pairs of compressed times.
 ghost use Rattle.std.specs.Prelude.{◌≡◌, ◌<◌, ◌≤◌, length};
+ghost use Rattle.planner.specs.declared.demands.TheConstants.{MOST_DEMANDS};
 
 use super::demands::{Demand, work_inside};
 
@@ -20,7 +21,7 @@ impl Pair {
     // The pair from low to high, with its work.
     pub(super) fn new(windows: &[Demand], low: u16, high: u16) -> Pair
         requires proper { low < high }
-        requires few { length windows.now ≤ 64 }
+        requires few { length windows.now ≤ MOST_DEMANDS }
         ensures pair { times_of result ≡ record { low = low; high = high } }
         ensures work { IsCounted windows.now result }
     {

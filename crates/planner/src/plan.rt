@@ -47,7 +47,7 @@ impl Plan {
 
     // The start of the hull of a window that starts at `from`.
     pub(super) fn hull_start(&self, from: usize) -> usize
-        requires { from < 256 }
+        requires { from < HORIZON }
         ensures { result ≡ low_end (state_of self.now).slack from }
     {
         self.slack[..=from]
@@ -58,8 +58,8 @@ impl Plan {
 
     // Allocates a unit of a window that starts at `from` to the tick.
     pub(super) fn allocate(&mut self, from: usize, tick: usize)
-        requires window { from < 256 }
-        requires tick { tick < 256 }
+        requires window { from < HORIZON }
+        requires tick { tick < HORIZON }
         requires room { HasRoom 1 (state_of self.old) }
         requires slack { (k : ℕ) → tick < k → k ≤ from → 0 < (state_of self.old).slack k }
         ensures { state_of self.new ≡ place_at from tick (state_of self.old) }

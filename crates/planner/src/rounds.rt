@@ -21,7 +21,7 @@ use std::marker::Model;
 impl Demand {
     // The demand as seen in compressed time.
     fn seen(&self, times: &[u16; HORIZON + 1]) -> Demand
-        requires { (self.now.from ≤ 256) × (self.now.to ≤ 256) }
+        requires { (self.now.from ≤ HORIZON) × (self.now.to ≤ HORIZON) }
         ensures { result ≡ seen (listed times.now) self.now }
     {
         Demand {
@@ -34,8 +34,8 @@ impl Demand {
 
 // The demands in compressed time, with empty ones after them.
 fn windows(demands: &[Demand], times: &[u16; HORIZON + 1]) -> [Demand; MOST_DEMANDS]
-    requires few { length demands.now ≤ 64 }
-    requires within { AllByRecursion (λ d. (d.from < d.to) × (d.to ≤ 256)) demands.now }
+    requires few { length demands.now ≤ MOST_DEMANDS }
+    requires within { AllByRecursion (λ d. (d.from < d.to) × (d.to ≤ HORIZON)) demands.now }
     ensures { take (length demands.now) result ≡ map (seen (listed times.now)) demands.now }
 {
     let mut windows = [Demand::default(); MOST_DEMANDS];
@@ -47,7 +47,7 @@ fn windows(demands: &[Demand], times: &[u16; HORIZON + 1]) -> [Demand; MOST_DEMA
 
 // Removes the demands that lie inside the pair: the others come first, and their number is answered.
 fn remove_inside(demands: &mut [Demand], times: &[u16; HORIZON + 1], pair: &Pair) -> usize
-    requires within { AllByRecursion (λ d. (d.from < d.to) × (d.to ≤ 256)) demands.old }
+    requires within { AllByRecursion (λ d. (d.from < d.to) × (d.to ≤ HORIZON)) demands.old }
     ensures left { take result demands.new ≡ unplaced (listed times.now) (times_of pair.now) demands.old }
     ensures count { result ≤ length demands.new }
 {
@@ -91,12 +91,13 @@ impl Model for Rounds {
     ghost use Rattle.planner.specs.declared.blocks.RelativeBlock.{RelativeBlock};
     ghost use Rattle.planner.specs.Ticks.{is_free_in};
     ghost use Rattle.planner.specs.Rounds.{blocks_to_come, AreLeft};
+    ghost use Rattle.planner.specs.declared.demands.TheConstants.{MOST_DEMANDS};
 
     ghost Value = { List RelativeBlock };
 
     ghost view = { λ r. blocks_to_come (is_free_in r.free) (take r.count r.demands) };
 
-    ghost invariant = { λ r. (r.count ≤ 64) × AreLeft (is_free_in r.free) (take r.count r.demands) };
+    ghost invariant = { λ r. (r.count ≤ MOST_DEMANDS) × AreLeft (is_free_in r.free) (take r.count r.demands) };
 }
 
 impl Rounds {

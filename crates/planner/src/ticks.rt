@@ -12,7 +12,7 @@ use super::pair::Pair;
 
 // The compressed time of each tick, and of the one after the last: the number of free ticks before it.
 pub(super) fn compressed_times(free: &[bool; HORIZON]) -> [u16; HORIZON + 1]
-    ensures { (t : ℕ) → t ≤ 256 → listed result t ≡ compressed (is_free_in free.now) t }
+    ensures { (t : ℕ) → t ≤ HORIZON → listed result t ≡ compressed (is_free_in free.now) t }
 {
     let mut times = [0; HORIZON + 1];
     for (tick, free) in free.iter().enumerate() {
@@ -27,7 +27,7 @@ pub(super) fn taken_ticks(
     times: &[u16; HORIZON + 1],
     pair: &Pair,
 ) -> [bool; HORIZON]
-    ensures { (t : ℕ) → t < 256
+    ensures { (t : ℕ) → t < HORIZON
         → is_marked_in result t ≡ (is_free_in free.now t && between (times_of pair.now) (listed times.now t)) }
 {
     let mut taken = [false; HORIZON];
@@ -39,7 +39,8 @@ pub(super) fn taken_ticks(
 
 // Takes ticks from the free ones.
 pub(super) fn take_ticks(free: &mut [bool; HORIZON], taken: &[bool; HORIZON])
-    ensures { (t : ℕ) → t < 256 → is_free_in free.new t ≡ (is_free_in free.old t && not (is_marked_in taken.now t)) }
+    ensures { (t : ℕ) → t < HORIZON
+        → is_free_in free.new t ≡ (is_free_in free.old t && not (is_marked_in taken.now t)) }
 {
     for (tick, taken) in taken.iter().enumerate() {
         if *taken {

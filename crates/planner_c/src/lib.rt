@@ -70,7 +70,7 @@ fn plannable<'a>(
     demands: &[PlannerDemand],
     memory: &'a mut [Demand; MOST_DEMANDS],
 ) -> Result<Demands<'a>, u32>
-    ensures many { result ≡ Err 1 ↔ 64 < length demands.now }
+    ensures many { result ≡ Err 1 ↔ MOST_DEMANDS < length demands.now }
     ensures planned { IsOk result ↔ IsPlannable (as_demands demands.now) }
     ensures otherwise { IfErr result (λ why. (0 < why) × (why ≤ 2)) }
     ensures demands { IfOk result (λ list. list ≡ as_demands demands.now) }
@@ -107,7 +107,7 @@ pub extern "C" fn planner_settings(
     demands: &[PlannerDemand],
     found: &mut PlannerSettingsList,
 ) -> u32
-    ensures many { result ≡ 1 ↔ 64 < length demands.now }
+    ensures many { result ≡ 1 ↔ MOST_DEMANDS < length demands.now }
     ensures planned { result ≡ 0 ↔ IsPlannable (as_demands demands.now) }
     ensures otherwise { result ≤ 2 }
     ensures settings { result ≡ 0
@@ -127,7 +127,7 @@ pub extern "C" fn planner_settings(
 impl PlannerBlockList {
     // Writes these blocks to the head of the list.
     fn write(&mut self, blocks: &[planner::RelativeBlock])
-        requires { length blocks.now ≤ 64 }
+        requires { length blocks.now ≤ MOST_DEMANDS }
         ensures count { self.new.count ≡ length blocks.now }
         ensures blocks { found_blocks self.new ≡ blocks.now }
         ensures rest { drop self.new.count self.new.blocks ≡ drop self.new.count self.old.blocks }
@@ -160,7 +160,7 @@ impl PlannerBlockList {
 /// ```
 #[unsafe(no_mangle)]
 pub extern "C" fn planner_blocks(demands: &[PlannerDemand], found: &mut PlannerBlockList) -> u32
-    ensures many { result ≡ 1 ↔ 64 < length demands.now }
+    ensures many { result ≡ 1 ↔ MOST_DEMANDS < length demands.now }
     ensures planned { result ≡ 0 ↔ IsPlannable (as_demands demands.now) }
     ensures otherwise { result ≤ 2 }
     ensures count { result ≡ 0 → found.new.count ≡ length (critical_blocks (as_demands demands.now)) }

@@ -27,7 +27,7 @@ fn record_in(kind: Kind, bytes: &[u8; RECORD_LEN]) -> Record<'_>
 
 // The record of these bytes, which stand at the offset in the input.
 fn parse(bytes: &[u8; RECORD_LEN], offset: usize) -> Result<Record<'_>, ReadFault>
-    requires { offset + 24 < 2 ^ 64 }
+    requires { offset + RECORD_LEN < 2 ^ 64 }
     ensures said { parse_answer_of result ≡ parse_answer offset bytes.now }
     ensures only { IsOnlyForm (some_content (parse_answer_of result)) bytes.now }
 {
@@ -106,7 +106,7 @@ impl<'a> Reader<'a> {
     /// The example at [`Reader`] reads a record and meets a cut one.
     pub fn read(&mut self) -> Result<Option<Record<'a>>, ReadFault>
         ensures said { read_answer_of result ≡ read_answer self.old.input self.old.offset }
-        ensures only { IsOnlyForm (read_answer_of result) (part self.old.offset 24 self.old.input) }
+        ensures only { IsOnlyForm (read_answer_of result) (part self.old.offset RECORD_LEN self.old.input) }
         ensures after { self.new ≡ position_after self.old }
         ensures within { self.new.offset ≤ length self.new.input }
     {

@@ -76,7 +76,7 @@ fn encode(said: &Record) -> Result<[u8; RECORD_LEN], WriteFault>
 pub fn write(said: &Record, out: &mut [u8]) -> Result<(), WriteFault>
     ensures said { result ≡ write_answer (content_of said.now) out.old }
     ensures written { out.new ≡ list_after (content_of said.now) out.old }
-    ensures back { is_ok result ≡ true → ReadsAs (take 24 out.new) (trimmed_content (content_of said.now)) }
+    ensures back { is_ok result ≡ true → ReadsAs (take RECORD_LEN out.new) (trimmed_content (content_of said.now)) }
 {
     let bytes = encode(said)?;
     if out.len() < RECORD_LEN {

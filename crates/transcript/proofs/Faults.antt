@@ -13,7 +13,7 @@ use Rattle.book.specs.declared.fault.BookField.{BookField}
 use Rattle.layout.specs.declared.job.Job.{Job}
 use Rattle.book.specs.declared.tick.Entry.{Entry}
 use Rattle.book.specs.Book.{View, book_with_jobs}
-use Rattle.layout.specs.Jobs.{last_tick}
+use Rattle.layout.specs.declared.job.TheConstants.{LAST_TICK}
 use Rattle.book.specs.Lists.{short_fault}
 use Rattle.book.specs.Outcomes.{Outcome, outcome}
 use Rattle.book.specs.Calls.{plain_outcome, field_fault, place_fault, early_fault, overload_fault_at, first_overload_of, overload_fault, book_with_job, offer_fault, strike_fault}
@@ -66,9 +66,9 @@ quiet_strike b ticket = quiet_if (is_ticket_open ticket b.jobs) None (Some (NotO
 
 quiet_tick : (b : View) (list : List Entry) → Quiet (tick_fault b list)
 quiet_tick b list =
-    quiet_or (short_fault 64 list) (if b.now == last_tick then Some (LastTick b.now) else None)
+    quiet_or (short_fault 64 list) (if b.now == LAST_TICK then Some (LastTick b.now) else None)
     (quiet_if (nat_lt (length list) 64) (Some (Short 64)) None refl tt)
-    (quiet_if (b.now == last_tick) (Some (LastTick b.now)) None refl tt)
+    (quiet_if (b.now == LAST_TICK) (Some (LastTick b.now)) None refl tt)
 
 -- an answer that does not end the run
 abbrev Going : Result Response BookFault → Type 0

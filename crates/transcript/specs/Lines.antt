@@ -2,6 +2,7 @@
 use Rattle.std.specs.Prelude.{ℕ, ◌*◌, zero, suc, Bool, false, List, take, Some, None, Ok, Err}
 use Rattle.std.specs.Prelude.{codes, Option, Result}
 use Rattle.std.specs.Result.{result_map_both}
+use Rattle.layout.specs.declared.kind.TheConstants.{RECORD_LEN}
 use Rattle.layout.specs.declared.fault.ReadFault.{ReadFault}
 use Rattle.layout.specs.Content.{Content, label_of}
 use Rattle.layout.specs.Label.{shown_label}
@@ -78,7 +79,7 @@ line_at b input offset = line_of_answer offset (outcome_at b input offset).answe
 -- the book before the record k: the records before it are worked with a book at 0 with top 4
 abbrev pub book_before : List ℕ → ℕ → View
 book_before input zero = empty_book 0 4
-book_before input (suc k) = (outcome_at (book_before input k) input (24 * k)).book
+book_before input (suc k) = (outcome_at (book_before input k) input (RECORD_LEN * k)).book
 
 -- whether the run ends with this
 abbrev pub is_over_after : Result (Option PlainLine) BenchFault → Bool

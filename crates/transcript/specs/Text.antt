@@ -1,6 +1,7 @@
 -- The transcript as text: fields with one space between, and a line feed after each line.
-use Rattle.std.specs.Prelude.{ℕ, ◌+◌, ◌*◌, ◌/◌, List, [], ◌∷◌, ◌++◌, length, Some, None, codes, decimal, Option}
+use Rattle.std.specs.Prelude.{ℕ, ◌+◌, ◌-◌, ◌*◌, ◌/◌, List, [], ◌∷◌, ◌++◌, length, Some, None, codes, decimal, Option}
 use Rattle.std.specs.List.{range_with_len, flat_map}
+use Rattle.layout.specs.declared.kind.TheConstants.{RECORD_LEN}
 use Rattle.refusal.specs.Text.{spaced_number, refusal_text}
 use Rattle.book.specs.declared.tick.Entry.{Entry}
 use Rattle.transcript.specs.Refusals.{bench_refusal}
@@ -29,11 +30,11 @@ line_text_of None = []
 
 -- how many records begin in the input
 abbrev pub record_count : List ℕ → ℕ
-record_count input = (length input + 23) / 24
+record_count input = (length input + RECORD_LEN - 1) / RECORD_LEN
 
 -- the line of the record k
 abbrev pub text_at : List ℕ → ℕ → List ℕ
-text_at input k = line_text_of (line_at (book_before input k) input (24 * k))
+text_at input k = line_text_of (line_at (book_before input k) input (RECORD_LEN * k))
 
 -- a line for each record, in their order
 abbrev pub transcript : List ℕ → List ℕ

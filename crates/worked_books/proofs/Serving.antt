@@ -3,12 +3,12 @@ use Rattle.std.proofs.Common.{◌≡◌, ℕ, ◌==◌, false, List, length, dro
 use Rattle.std.proofs.Math.Seq.{take-append_seam}
 use Rattle.book.specs.declared.tick.Entry.{Entry}
 use Rattle.book.specs.Book.{View}
-use Rattle.layout.specs.Jobs.{last_tick}
+use Rattle.layout.specs.declared.job.TheConstants.{LAST_TICK}
 use Rattle.book.specs.Settings.{settings_of}
 use Rattle.book.specs.Ticks.{grants, grants_of, entries_of}
 use Rattle.worked_books.specs.Words.{TickServes}
 
-pub serves : (b : View) (setting : ℕ) (es : List Entry) → (b.now == last_tick) ≡ false → settings_of b 0 ≡ setting
+pub serves : (b : View) (setting : ℕ) (es : List Entry) → (b.now == LAST_TICK) ≡ false → settings_of b 0 ≡ setting
     → entries_of (grants b.now setting b.jobs) ≡ es → TickServes b setting es
 serves b setting es more first at_setting = record {
   answer = λ list enough. rw (enough, more) (λ i. Ok (record { setting = first i; count = length (granted i) }));

@@ -6,6 +6,7 @@ use Rattle.schedule.specs.InForce.{horizon}
 use Rattle.schedule.specs.Demands.{job as window}
 use Rattle.schedule.specs.Certificate.{listed}
 use Rattle.schedule.proofs.Theory.{theory}
+use Rattle.worked_books.specs.Numbers.{Numbers}
 use Rattle.worked_books.specs.WorkedBooks.{NoJob, Uneven, Nested, Even, SameDeadline, LowTop, Together, Full, TooFull, Models, WorkedBooks}
 use Rattle.worked_books.proofs.Offers.{worked, overloads}
 use Rattle.worked_books.proofs.Writing.{sets, at_all_ticks, has_blocks}
@@ -70,3 +71,6 @@ all_worked = record {
   too_full = too_full;
   models = models;
 }
+
+pub numbers : Numbers
+numbers = record { horizon = refl; places = refl; last_tick = refl; setting_values = refl; record_len = refl; image_len = refl }

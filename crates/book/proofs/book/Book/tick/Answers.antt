@@ -6,7 +6,7 @@ use Rattle.schedule.specs.InForce.{horizon}
 use Rattle.schedule.proofs.Theory.{theory}
 use Rattle.book.specs.declared.tick.Entry.{Entry}
 use Rattle.book.specs.Book.{View}
-use Rattle.layout.specs.Jobs.{last_tick}
+use Rattle.layout.specs.declared.job.TheConstants.{LAST_TICK}
 use Rattle.book.specs.Settings.{settings_of}
 use Rattle.book.specs.Lists.{list_with}
 use Rattle.book.specs.Ticks.{has_work}
@@ -34,7 +34,7 @@ returns c =
     let list : c.serve-count.new.list ≡ list_with es c.args.list.now = c.serve-count.ensures.list ∙ ap (λ u. list_with (entries_then b.now u b.jobs) c.args.list.now) setting in
     let count : c.serve-count.result ≡ length es = c.serve-count.ensures.count ∙ ap (λ u. length (entries_then b.now u b.jobs)) setting in
     let enough : ltb (length c.args.list.now) 64 ≡ false = grind (arith, nat_tests) in
-    let more : (b.now == last_tick) ≡ false = grind (arith, nat_tests) in
+    let more : (b.now == LAST_TICK) ≡ false = grind (arith, nat_tests) in
     let written : take c.serve-count.result c.serve-count.new.list ≡ es =
     (λ i. take (count i) (list i)) ∙ take-append_seam es (drop (length es) c.args.list.now) in
     let gives : sum_by (λ e. e.units) (take c.serve-count.result c.serve-count.new.list) ≡ get_or c.setting_bytes.result 0 0 =
