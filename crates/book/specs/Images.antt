@@ -6,7 +6,7 @@ use Rattle.std.specs.List.{range_with_len, flat_map, list_all}
 use Rattle.std.specs.Option.{option_map, option_or}
 use Rattle.book.specs.declared.image.TheConstants.{IMAGE_LEN, RECORDS}
 use Rattle.book.specs.declared.table.TheConstants.{PLACES}
-use Rattle.layout.specs.declared.kind.TheConstants.{RECORD_LEN}
+use Rattle.layout.specs.declared.kind.TheConstants.{LABEL_LEN, RECORD_LEN}
 use Rattle.planner.specs.declared.demands.TheConstants.{HORIZON}
 use Rattle.layout.specs.BigEndian.{part}
 use Rattle.layout.specs.Jobs.{job_in, record_bytes}
@@ -24,11 +24,11 @@ use Rattle.book.specs.Calls.{plain_outcome, first_overload_of}
 -- work (16 and 17)
 abbrev pub clock_record : (now top : ℕ) → List ℕ
 clock_record now top =
-    record_bytes 0x43 (record { ticket = 0; arrival = now; deadline = 0; work = top }) (replicate 6 0)
+    record_bytes 0x43 (record { ticket = 0; arrival = now; deadline = 0; work = top }) (replicate LABEL_LEN 0)
 
 -- the record of an open job
 abbrev pub job_record : Job → List ℕ
-job_record j = record_bytes 0x4a j (replicate 6 0)
+job_record j = record_bytes 0x4a j (replicate LABEL_LEN 0)
 
 -- a record that stands for no job
 abbrev pub blank_record : List ℕ

@@ -1,6 +1,7 @@
 -- Labels.
 use Rattle.std.specs.Prelude.{ℕ, ◌-◌, Bool, ◌&&◌, List, [], ◌∷◌, length, take, ◌==◌, nat_eq}
 use Rattle.std.specs.List.{suffix_len, list_all}
+use Rattle.layout.specs.declared.kind.TheConstants.{LABEL_LEN}
 use Rattle.layout.specs.Layout.{is_printable}
 
 -- the length without the last spaces
@@ -21,4 +22,4 @@ is_all_printable l = list_all is_printable l
 
 -- six bytes that a label may hold
 abbrev pub is_label : List ℕ → Bool
-is_label l = length l == 6 && is_all_printable l
+is_label l = length l == LABEL_LEN && is_all_printable l

@@ -2,13 +2,14 @@
 -- work (16-17) and label (18-23).
 use Rattle.std.specs.Prelude.{ℕ, ◌+◌, Bool, if◌then◌else◌, ◌&&◌, ◌||◌, ◌==◌, nat_le, nat_lt}
 use Rattle.std.specs.Prelude.{List, [], ◌∷◌, Some, None, Option}
+use Rattle.layout.specs.declared.kind.TheConstants.{LABEL, LABEL_LEN}
 use Rattle.layout.specs.declared.kind.Kind.{Kind}
 use Rattle.layout.specs.declared.kind.Kind.TheVariants.{Offer, Strike, Tick}
 use Rattle.layout.specs.BigEndian.{part}
 
 -- the label in 24 bytes
 abbrev pub label_in : List ℕ → List ℕ
-label_in b = part 18 6 b
+label_in b = part LABEL LABEL_LEN b
 
 abbrev pub kind_byte : Kind → ℕ
 kind_byte Offer = 0x4f
@@ -27,7 +28,7 @@ is_printable b = nat_le 0x20 b && nat_le b 0x7e
 
 -- an offer has all numbers, a strike the ticket alone, a tick none: where the numbers of a kind end
 abbrev pub numbers_end : Kind → ℕ
-numbers_end Offer = 18
+numbers_end Offer = LABEL
 numbers_end Strike = 4
 numbers_end Tick = 2
 
@@ -41,7 +42,7 @@ is_label_byte Tick b = b == 0x20
 -- it may be any in the numbers, and is zero elsewhere before the label
 abbrev pub is_allowed : Kind → (i b : ℕ) → Bool
 is_allowed k i b =
-    if nat_lt i 18 then (nat_le 2 i && nat_lt i (numbers_end k)) || b == 0 else is_label_byte k b
+    if nat_lt i LABEL then (nat_le 2 i && nat_lt i (numbers_end k)) || b == 0 else is_label_byte k b
 
 -- the index of the first byte that the layout forbids, of the bytes of a record from byte i on
 abbrev pub first_forbidden : Kind → (i : ℕ) → List ℕ → Option ℕ

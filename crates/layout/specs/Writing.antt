@@ -1,6 +1,6 @@
 -- What the writer writes, and when it refuses.
 use Rattle.std.specs.Prelude.{ℕ, if◌then◌else◌, List, ◌++◌, length, drop, replicate, Ok, Err, Result, nat_lt}
-use Rattle.layout.specs.declared.kind.TheConstants.{RECORD_LEN}
+use Rattle.layout.specs.declared.kind.TheConstants.{LABEL_LEN, RECORD_LEN}
 use Rattle.layout.specs.declared.fault.WriteFault.{WriteFault}
 use Rattle.layout.specs.declared.fault.WriteFault.TheVariants.{Field, Short}
 use Rattle.layout.specs.declared.fault.WrittenField.TheVariants.{Arrival, Deadline, Label}
@@ -18,7 +18,7 @@ bare_job t = record { ticket = t; arrival = 0; deadline = 0; work = 0 }
 
 -- the label of a strike or a tick
 abbrev pub blank_label : List ℕ
-blank_label = replicate 6 0x20
+blank_label = replicate LABEL_LEN 0x20
 
 -- the 24 bytes of a record: a strike has no number but its ticket, a tick none
 abbrev pub encoding_of : Content → List ℕ

@@ -1,7 +1,7 @@
 -- The numbers of the rules, by the constants that code and definitions name them with.
 use Rattle.std.specs.Prelude.{◌≡◌}
 use Rattle.layout.specs.declared.job.TheConstants.{LAST_TICK}
-use Rattle.layout.specs.declared.kind.TheConstants.{RECORD_LEN}
+use Rattle.layout.specs.declared.kind.TheConstants.{LABEL_LEN, RECORD_LEN}
 use Rattle.power.specs.declared.model.TheConstants.{SETTING_VALUES}
 use Rattle.planner.specs.declared.demands.TheConstants.{HORIZON}
 use Rattle.book.specs.declared.table.TheConstants.{PLACES}
@@ -16,6 +16,7 @@ pub record Numbers : Type 0 where
   pub last_tick : LAST_TICK ≡ 281474976710655
   -- the values that a setting can have
   pub setting_values : SETTING_VALUES ≡ 256
-  -- the bytes of a record, and of an image
+  -- the bytes of a label, of a record and of an image
+  pub label_len : LABEL_LEN ≡ 6
   pub record_len : RECORD_LEN ≡ 24
   pub image_len : IMAGE_LEN ≡ 1560
