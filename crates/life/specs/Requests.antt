@@ -20,7 +20,7 @@ request_of (offer_record j label) = Offer j
 request_of (strike_record t) = Strike t
 request_of tick_record = Tick
 
--- the outcome of a call of the book as that of a request: its answer told as a response, and the list
+-- the outcome of a call of the book as that of a request: its answer as a response, and the list
 abbrev pub outcome_as_response : {A L : Type 0} → (A → Response) → List Entry → Outcome A BookFault L
     → Outcome Response BookFault (List Entry)
 outcome_as_response response list o =
@@ -48,5 +48,5 @@ request_answer (Err fault) = refused fault
 -- the event that a request with the list was, which answered so and left the list like this
 abbrev pub event_of : Request → (before : List Entry) → Result Response BookFault → (after : List Entry) → Event
 event_of request before answer after =
-    let told = request_answer answer in
-    record { call = call_of request before; answer = told; entries = entries_written told after }
+    let kept = request_answer answer in
+    record { call = call_of request before; answer = kept; entries = entries_written kept after }

@@ -73,4 +73,13 @@ all_worked = record {
 }
 
 pub numbers : Numbers
-numbers = record { horizon = refl; places = refl; last_tick = refl; setting_values = refl; label_len = refl; record_len = refl; image_len = refl }
+numbers = record {
+  horizon = refl;
+  places = refl;
+  most_demands = refl;
+  last_tick = refl;
+  setting_values = refl;
+  label_len = refl;
+  record_len = refl;
+  image_len = refl;
+}
