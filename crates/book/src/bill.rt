@@ -6,8 +6,15 @@ use super::book::Book;
 use planner::HORIZON;
 use power::PowerModel;
 
-// The sum of the model's draws over settings, one for each tick planned ahead.
-fn total_draw<M: PowerModel>(model: &M, settings: &[u8; HORIZON]) -> u64
+/// The sum of the model's draws over settings, one for each tick planned ahead, in the model's unit. It never
+/// refuses, whatever settings the caller brings.
+///
+/// ```text
+/// // book_tests: sum::a_few_settings_draw_their_cubes
+/// // The settings 1, 1, 1, 1, 3, 3 and then 0, where a setting draws its cube: 4 * 1 + 2 * 27 = 58.
+/// total_draw(&Cube::new(0, 1)?, &settings)
+/// ```
+pub fn total_draw<M: PowerModel>(model: &M, settings: &[u8; HORIZON]) -> u64
     ensures { result ≡ total_draw (M.draws model.now) settings.now }
 {
     settings

@@ -28,6 +28,7 @@ mod settings;
 mod table;
 mod tick;
 
+pub use bill::total_draw;
 pub use blocks::CriticalBlock;
 pub use book::Book;
 pub use fault::{BookFault, BookField};

@@ -1,6 +1,6 @@
 //! Tests of the book: each refusal at its edges, the order of the open jobs, overloads against a search of another
-//! kind, settings, bills, ticks, critical blocks, images and which of their records is wrong, what is told of its
-//! faults, what `{:?}` shows of it, and the examples that stand at its calls and at those of a life.
+//! kind, settings, bills, sums of draws, ticks, critical blocks, images and which of their records is wrong, what is
+//! told of its faults, what `{:?}` shows of it, and the examples that stand at its calls and at those of a life.
 #![tactic(auto)]
 
 #[cfg(test)]
@@ -21,6 +21,8 @@ mod places;
 mod samples;
 #[cfg(test)]
 mod shown;
+#[cfg(test)]
+mod sum;
 #[cfg(test)]
 mod telling;
 #[cfg(test)]

@@ -4,5 +4,4 @@ pub mod Labels
 pub mod Layouts
 pub mod OneForm
 pub mod Readings
-pub mod Shifts
 pub mod WrittenReads

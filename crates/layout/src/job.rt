@@ -14,9 +14,10 @@ fn read_number(bytes: &[u8]) -> u64
     ensures value { result ≡ number bytes.now }
     ensures fits { result < 256 ^ length bytes.now }
 {
-    bytes
-        .iter()
-        .fold(0, |number, byte| (number << 8) | u64::from(*byte))
+    // One number of eight bytes: a fold goes byte by byte.
+    let mut padded = [0; 8];
+    padded[8 - bytes.len()..].copy_from_slice(bytes);
+    u64::from_be_bytes(padded)
 }
 
 /// A job: work that is to be done in a window of ticks.

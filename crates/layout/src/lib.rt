@@ -26,4 +26,6 @@ mod kind;
 
 pub use fault::{ReadFault, WriteFault, WrittenField};
 pub use job::{Job, LAST_TICK};
-pub use kind::{Kind, LABEL, LABEL_LEN, RECORD_LEN, UnknownKind, is_printable};
+pub use kind::{
+    ARRIVAL, DEADLINE, Kind, LABEL, LABEL_LEN, RECORD_LEN, TICKET, UnknownKind, WORK, is_printable,
+};

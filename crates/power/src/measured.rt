@@ -1,5 +1,5 @@
 // A model whose draws were measured.
-ghost use Rattle.std.specs.Prelude.{◌≡◌, ℕ, ◌≤◌, replicate};
+ghost use Rattle.std.specs.Prelude.{◌≡◌, ℕ, ◌<◌, ◌≤◌, replicate};
 ghost use Rattle.power.specs.Laws.{Lawful};
 ghost use Rattle.power.specs.Draws.{draw_at};
 ghost use Rattle.power.specs.Breaks.{is_break_at, first_break};
@@ -21,11 +21,10 @@ pub struct Measured {
 }
 
 // Whether the draws break a law at the setting.
-fn is_break_at(draws: &[u32; SETTING_VALUES], setting: u8) -> bool
-    requires { 1 ≤ setting }
+fn is_break_at(draws: &[u32; SETTING_VALUES], setting: usize) -> bool
+    requires { (1 ≤ setting) × (setting < SETTING_VALUES) }
     ensures { result ≡ is_break_at (draw_at draws.now) setting }
 {
-    let setting = setting as usize;
     let draw = u64::from(draws[setting]);
     let before = u64::from(draws[setting - 1]);
     draw < before || (2 <= setting && draw + u64::from(draws[setting - 2]) < 2 * before)
@@ -35,7 +34,10 @@ fn is_break_at(draws: &[u32; SETTING_VALUES], setting: u8) -> bool
 fn first_break(draws: &[u32; SETTING_VALUES]) -> Option<u8>
     ensures { result ≡ first_break (draw_at draws.now) }
 {
-    (1..=255).find(|setting| is_break_at(draws, *setting))
+    // As `usize`: a range of `u8` up to 255 has to keep whether it is done.
+    (1..SETTING_VALUES)
+        .find(|&setting| is_break_at(draws, setting))
+        .map(|setting| setting as u8)
 }
 
 impl Measured {

@@ -119,6 +119,8 @@ impl<'a> Reader<'a> {
             return Err(ReadFault::Cut { offset });
         };
         self.offset += RECORD_LEN;
-        parse(bytes, offset).map(Some)
+        // By `?`, and not by `map(Some)`, which copies every answer.
+        let record = parse(bytes, offset)?;
+        Ok(Some(record))
     }
 }

@@ -75,6 +75,8 @@ fn a_fault_of_the_book_passes_up_whole(rt: HostRuntime) {
 fn a_refusal_is_printed_by_number_and_values(rt: HostRuntime) -> Result<(), Fail> {
     let one = format!(in rt.alloc(); "{}", Refusal::with_value(Layer::Record, 1, 48))?;
     assert_eq!(rt; one.as_str(), "1 48");
+    let one = format!(in rt.alloc(); "{}", Refusal::with_value(Layer::Record, 13, 65))?;
+    assert_eq!(rt; one.as_str(), "13 65");
     let overload = Refusal {
         layer: Layer::Bench,
         number: 8,
