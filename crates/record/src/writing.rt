@@ -1,5 +1,8 @@
 // The writer: one record into the caller's list.
 ghost use Rattle.std.specs.Prelude.{◌≡◌, true, take, is_ok, OnOk};
+ghost use Rattle.std.specs.Result.{result_map_both};
+ghost use Rattle.layout.specs.Layout.{kind_byte};
+ghost use Rattle.layout.specs.Jobs.{record_bytes, IsSized};
 ghost use Rattle.layout.specs.RoundTrip.{IsSizedContent, trimmed_content, ReadsAs};
 ghost use Rattle.layout.specs.Writing.{bare_job, encoding_of, encode_answer, write_check, offer_check};
 ghost use Rattle.layout.specs.Writing.{write_answer, list_after};
@@ -14,15 +17,17 @@ const BLANK_LABEL: [u8; LABEL_LEN] = [b' '; LABEL_LEN];
 
 // Whether the fields of an offer fit their bytes.
 fn check_offer(offer: &Offer) -> Result<(), WriteFault>
-    ensures { result ≡ offer_check offer.now.job offer.now.label.now }
+    ensures fits { result ≡ offer_check offer.now.job offer.now.label.now }
+    ensures sized { IsSized offer.now.job }
 {
-    if offer.job.arrival > LAST_TICK {
+    let Offer { job, label } = *offer;
+    if job.arrival > LAST_TICK {
         return Err(WriteFault::Field(WrittenField::Arrival));
     }
-    if offer.job.deadline > LAST_TICK {
+    if job.deadline > LAST_TICK {
         return Err(WriteFault::Field(WrittenField::Deadline));
     }
-    if !is_label(offer.label) {
+    if !is_label(label) {
         return Err(WriteFault::Field(WrittenField::Label));
     }
     Ok(())
@@ -38,20 +43,21 @@ fn bare_job(ticket: u16) -> Job
     }
 }
 
-// The bytes of the record, where its fields fit them.
-fn encode(said: &Record) -> Result<[u8; RECORD_LEN], WriteFault>
-    ensures said { result ≡ encode_answer (write_check (content_of said.now)) (encoding_of (content_of said.now)) }
+// What the bytes of the record are made of, where its fields fit them. Not the bytes: in a `Result` they would be
+// copied by pieces.
+fn parts<'a>(said: &Record<'a>) -> Result<(Kind, Job, &'a [u8; LABEL_LEN]), WriteFault>
+    ensures said { result_map_both (λ p. record_bytes (kind_byte p.0) p.1 p.2.now) (λ fault. fault) result
+        ≡ encode_answer (write_check (content_of said.now)) (encoding_of (content_of said.now)) }
     ensures sized { OnOk result (IsSizedContent (content_of said.now)) }
 {
-    let (kind, job, label) = match *said {
+    Ok(match *said {
         Record::Offer(offer) => {
             check_offer(&offer)?;
             (Kind::Offer, offer.job, offer.label.first_chunk().unwrap())
         }
         Record::Strike { ticket } => (Kind::Strike, bare_job(ticket), &BLANK_LABEL),
         Record::Tick => (Kind::Tick, bare_job(0), &BLANK_LABEL),
-    };
-    Ok(job.to_record(kind.into(), label))
+    })
 }
 
 /// Writes the record into the first 24 bytes of the list, and leaves the rest of it.
@@ -78,7 +84,8 @@ pub fn write(said: &Record, out: &mut [u8]) -> Result<(), WriteFault>
     ensures written { out.new ≡ list_after (content_of said.now) out.old }
     ensures back { is_ok result ≡ true → ReadsAs (take RECORD_LEN out.new) (trimmed_content (content_of said.now)) }
 {
-    let bytes = encode(said)?;
+    let (kind, job, label) = parts(said)?;
+    let bytes = job.to_record(kind.into(), label);
     if out.len() < RECORD_LEN {
         return Err(WriteFault::Short { needed: RECORD_LEN });
     }
